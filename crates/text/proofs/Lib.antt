@@ -1,0 +1,4 @@
+pub mod Strays
+pub mod Alphabets
+pub mod Numbers
+pub mod Literals

@@ -1,0 +1,3 @@
+pub mod Alphabet
+pub mod Number
+pub mod Literal

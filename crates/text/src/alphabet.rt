@@ -1,0 +1,64 @@
+// Which bytes a part may hold.
+ghost use mathlib.Core.Path.{_≡_};
+ghost use Rattle.text.specs.Alphabet.{within, allowed, firstStray, holdsOnly};
+
+// The kinds of part, by the bytes that they may hold.
+pub enum Alphabet {
+    // N of a card file, dates, times, amounts: 0 to 9.
+    Digits,
+    // AN of a card file.
+    CardText,
+    // 32 to 126.
+    PlainAscii,
+    // A card number, of which places may be hidden.
+    DigitsAndStars,
+}
+
+// The first place of a part that holds a byte it may not hold.
+pub enum Stray {
+    At(usize),
+    Nowhere,
+}
+
+// Whether a byte is one of those from low to high.
+fn is_within(low: u8, high: u8, byte: u8) -> bool
+    ensures { λ r. ⌜ r ≡ within low high byte ⌝ }
+{
+    low <= byte && byte <= high
+}
+
+// Whether a part of this alphabet may hold this byte.
+pub fn allows(alphabet: Alphabet, byte: u8) -> bool
+    ensures { λ r. ⌜ r ≡ allowed alphabet byte ⌝ }
+{
+    match alphabet {
+        Alphabet::Digits => is_within(b'0', b'9', byte),
+        Alphabet::CardText => is_within(b' ', b'~', byte),
+        Alphabet::PlainAscii => is_within(b' ', b'~', byte),
+        Alphabet::DigitsAndStars => byte == b'*' || is_within(b'0', b'9', byte),
+    }
+}
+
+// The first place whose byte is not of this alphabet.
+pub fn first_stray(alphabet: Alphabet, part: &[u8]) -> Stray
+    ensures { λ r. ⌜ r ≡ firstStray alphabet 0 (now (part .entry)) ⌝ }
+{
+    let mut i = 0;
+    while i < part.len() {
+        if !allows(alphabet, part[i]) {
+            return Stray::At(i);
+        }
+        i += 1;
+    }
+    Stray::Nowhere
+}
+
+// Whether every byte is of this alphabet.
+pub fn holds_only(alphabet: Alphabet, part: &[u8]) -> bool
+    ensures { λ r. ⌜ r ≡ holdsOnly alphabet (now (part .entry)) ⌝ }
+{
+    match first_stray(alphabet, part) {
+        Stray::At(_) => false,
+        Stray::Nowhere => true,
+    }
+}
