@@ -1,11 +1,15 @@
--- `sameBytes` says of two lists that they are equal.
-use Prim.Native.Nat.{ℕ}
+-- `sameBytes` says of two lists that they are equal; what one byte of a set does to `hasByte`.
+use Prim.Native.Nat.{ℕ, _+_, _≤_, _<_}
 use mathlib.Core.Path.{_≡_, refl, sym, ap₂, subst}
 use mathlib.Core.List.{List, [], _∷_}
 use mathlib.Core.Bool.{Bool, true, false, false≢true}
-use borrow.Author.Tests.{eq-eqb, eqb-true}
+use native.Mathlib.Omega.{arith}
+use native.Mathlib.Numerals.{add-one}
+use borrow.Author.Tests.{eq-eqb, ne-eqb, eqb-true}
+use lib.ListN.{length, getD, drop, drop-of-length-le}
+use lib.Seq.{drop-cons}
 use lib.Dec.{eqb}
-use Rattle.text.specs.Literal.{sameBytes}
+use Rattle.text.specs.Literal.{sameBytes, hasByte, oneByteOf}
 use Rattle.text.proofs.Alphabets.{both, both-left, both-right}
 
 -- a list has the same bytes as itself
@@ -35,3 +39,29 @@ is-same r s t to from = of r (sameBytes s t) (λ e. equal-same s t (to e)) (λ e
     of true q f g = sym (f refl)
     of false true f g = g refl
     of false false f g = refl
+
+-- the byte stands here, or the search goes on behind it, or there is no byte left
+pub byte-here : (b : ℕ) (s : List ℕ) (i : ℕ) → i < length s → getD s i 0 ≡ b → hasByte b (drop i s) ≡ true
+unfolding hasByte
+byte-here b s i h e = rw (drop-cons s i 0 h, eq-eqb _ _ e)
+
+pub byte-on : (b : ℕ) (s : List ℕ) (i : ℕ) → i < length s → (getD s i 0 ≡ b → ⊥) → hasByte b (drop i s) ≡ hasByte b (drop (i + 1) s)
+unfolding hasByte
+byte-on b s i h e = rw (drop-cons s i 0 h, add-one, ne-eqb _ _ e)
+
+pub byte-gone : (b : ℕ) (s : List ℕ) (i : ℕ) → length s ≤ i → hasByte b (drop i s) ≡ false
+unfolding hasByte
+byte-gone b s i h = rw (drop-of-length-le s h)
+
+-- a part of one byte, and a part of another length
+pub one-byte : (set s : List ℕ) → length s ≡ 1 → hasByte (getD s 0 0) set ≡ oneByteOf set s
+unfolding oneByteOf
+one-byte set [] e = absurd (omega arith)
+one-byte set (b ∷ []) e = refl
+one-byte set (b ∷ c ∷ s) e = absurd (omega arith)
+
+pub not-one-byte : (set s : List ℕ) → (length s ≡ 1 → ⊥) → false ≡ oneByteOf set s
+unfolding oneByteOf
+not-one-byte set [] e = refl
+not-one-byte set (b ∷ []) e = absurd (e refl)
+not-one-byte set (b ∷ c ∷ s) e = refl
