@@ -2,3 +2,4 @@ pub mod Strays
 pub mod Alphabets
 pub mod Numbers
 pub mod Literals
+pub mod Parts

@@ -1,3 +1,4 @@
 pub mod Alphabet
 pub mod Number
 pub mod Literal
+pub mod Part

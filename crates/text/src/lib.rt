@@ -1,4 +1,5 @@
-// What a part of a record may hold: which bytes, the number that its digits write, whether it is a given text.
+// The parts of a record, and what they may hold: which bytes, the number that digits write, a given text.
 pub mod alphabet;
 pub mod literal;
 pub mod number;
+pub mod part;

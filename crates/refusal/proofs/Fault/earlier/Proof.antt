@@ -1,0 +1,19 @@
+-- `refusal::Fault::earlier` meets its contract: the arm says which case of `earlierOf` it is.
+use borrow.Author.Needs.{needs}
+use Rattle.refusal.proofs.Fault.earlier.Statement.{statement}
+use Rattle.refusal.proofs.Fault.earlier.Tie as tie
+
+enum-told : tie.Need-enum-told
+enum-told c = search needs
+
+enum-known-self : tie.Need-enum-known-self
+enum-known-self c = search needs
+
+returns : tie.Need-returns
+returns c = search needs
+
+returns-2 : tie.Need-returns-2
+returns-2 c = rw (c .before .self .given .1)
+
+pub earlier-spec : {M : Type 1} → statement M
+earlier-spec = tie.close (tie.spec enum-told enum-known-self returns returns-2)

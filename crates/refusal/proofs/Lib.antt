@@ -1,0 +1,3 @@
+pub mod RefusalList
+pub mod Faults
+pub mod Rules

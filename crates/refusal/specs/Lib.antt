@@ -1,0 +1,3 @@
+pub mod RefusalList
+pub mod Fault
+pub mod Rules
