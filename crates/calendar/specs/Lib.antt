@@ -1,0 +1,4 @@
+pub mod When
+pub mod Month
+pub mod Day
+pub mod Time

@@ -1,0 +1,5 @@
+// Real days and times, as the files write them.
+pub mod day;
+pub mod month;
+pub mod time;
+pub mod when;
