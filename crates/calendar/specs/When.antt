@@ -1,9 +1,11 @@
 -- What a part says when it is read as a day or as a time.
 use Prim.Native.Nat.{ℕ}
-use mathlib.Core.List.{List}
-use mathlib.Core.Bool.{Bool, cond}
+use mathlib.Core.List.{List, [], _∷_}
+use mathlib.Core.Bool.{Bool, true, false, cond}
 use lib.ListN.{length}
 use lib.Dec.{eqb}
+use Rattle.refusal.specs.declared.Cause.the-variants.{ByteNotAllowed, ValueNotAllowed}
+use Rattle.refusal.specs.Rules.{Rule, ruleAt}
 use Rattle.text.specs.Alphabet.{holdsOnly}
 use Rattle.text.specs.declared.alphabet.Alphabet.the-variants.{Digits}
 use Rattle.text.specs.Number.{valueOf}
@@ -19,3 +21,9 @@ abbrev pub onlyIf : (ℕ → Bool) → When → When
 onlyIf real NotDigits = NotDigits
 onlyIf real NoSuch = NoSuch
 onlyIf real (At n) = cond (real n) (At n) NoSuch
+
+-- the rules of a field that should name a day or a time: digits (7), and one that there is (8)
+unfoldable pub whenRules : ℕ → When → List Rule
+whenRules column NotDigits = ruleAt ByteNotAllowed column false ∷ []
+whenRules column NoSuch = ruleAt ByteNotAllowed column true ∷ ruleAt ValueNotAllowed column false ∷ []
+whenRules column (At n) = ruleAt ByteNotAllowed column true ∷ ruleAt ValueNotAllowed column true ∷ []

@@ -1,7 +1,10 @@
 // What a part says when it is read as a day or as a time.
 ghost use mathlib.Core.Path.{_≡_};
 ghost use Prim.Native.Nat.{_≤_};
-ghost use Rattle.calendar.specs.When.{written};
+ghost use Rattle.refusal.specs.Rules.{firstBroken};
+ghost use Rattle.calendar.specs.When.{written, whenRules};
+use refusal::Cause;
+use refusal::Fault;
 use text::number::Number;
 
 pub enum When {
@@ -11,6 +14,19 @@ pub enum When {
     NoSuch,
     // The day as the number AAAAMMDD, or the time as the number HHMMSS.
     At(u64),
+}
+
+impl When {
+    // The fault of a field that should name a day or a time.
+    pub fn fault(self, column: u64) -> Fault
+        ensures { λ r. ⌜ r ≡ firstBroken (whenRules column self) ⌝ }
+    {
+        match self {
+            When::NotDigits => Fault::At(Cause::ByteNotAllowed, column),
+            When::NoSuch => Fault::At(Cause::ValueNotAllowed, column),
+            When::At(_) => Fault::Nothing,
+        }
+    }
 }
 
 // The number that a part of exactly `width` digits writes, where so many digits are read at all.

@@ -14,6 +14,9 @@ pub record Rule : Type 0 where
   pub column : ℕ
   pub holds : Bool
 
+abbrev pub ruleAt : Cause → ℕ → Bool → Rule
+ruleAt cause column holds = record { cause = cause; column = column; holds = holds }
+
 -- the first rule that does not hold
 unfoldable pub firstBroken : List Rule → Fault
 firstBroken [] = Nothing

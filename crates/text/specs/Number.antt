@@ -21,3 +21,9 @@ valueOf = valueFrom 0
 -- the number that a part writes, exact up to 18 digits
 abbrev pub numberOf : List ℕ → Number
 numberOf s = cond (holdsOnly Digits s) (cond (leb (length s) 18) (Of (valueOf s)) TooLong) NotDigits
+
+-- the number that was read; 0 where there is none
+abbrev pub plainNumber : Number → ℕ
+plainNumber (Of n) = n
+plainNumber NotDigits = 0
+plainNumber TooLong = 0

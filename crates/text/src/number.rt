@@ -4,7 +4,7 @@ ghost use mathlib.Core.Bool.{true};
 ghost use Prim.Native.Nat.{_≤_};
 ghost use lib.ListN.{length};
 ghost use Rattle.text.specs.Alphabet.{holdsOnly};
-ghost use Rattle.text.specs.Number.{valueOf, numberOf};
+ghost use Rattle.text.specs.Number.{valueOf, numberOf, plainNumber};
 
 use crate::alphabet::Alphabet;
 
@@ -14,6 +14,19 @@ pub enum Number {
     NotDigits,
     // Digits, and more of them than are read.
     TooLong,
+}
+
+impl Number {
+    // The number that was read; 0 where there is none.
+    pub fn or_zero(self) -> u64
+        ensures { λ r. ⌜ r ≡ plainNumber self ⌝ }
+    {
+        match self {
+            Number::Of(n) => n,
+            Number::NotDigits => 0,
+            Number::TooLong => 0,
+        }
+    }
 }
 
 // The longest number that is read: any 18 digits stay below 2^64.
