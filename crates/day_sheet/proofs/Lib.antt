@@ -1,0 +1,5 @@
+pub mod Digits
+pub mod Filling
+pub mod Places
+pub mod Readings
+pub mod Writings

@@ -1,0 +1,4 @@
+pub mod Number
+pub mod Sheet
+pub mod Layout
+pub mod Reading
