@@ -1,3 +1,4 @@
 pub mod RefusalList
 pub mod Faults
 pub mod Rules
+pub mod Rows

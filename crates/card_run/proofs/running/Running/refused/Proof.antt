@@ -1,0 +1,23 @@
+-- `card_run::running::Running::refused` meets its contract: the stage alone changes.
+use Prim.Native.Nat.{ℕ}
+use mathlib.Core.Path.{sym, _∙_, ap}
+use Rattle.card_run.specs.declared.stage.Stage.the-variants.{Refused}
+use Rattle.card_run.specs.Running.{staged}
+use borrow.Author.Needs.{needs}
+use Rattle.card_run.proofs.running.Running.refused.Statement.{statement}
+use Rattle.card_run.proofs.running.Running.refused.Tie as tie
+
+next-number-requires : tie.Need-next-number-requires
+next-number-requires c κs = search needs
+
+staged-requires : tie.Need-staged-requires
+staged-requires c κs = search needs
+
+returns : tie.Need-returns
+returns c =
+    let a = c .before .before .args in
+    c .staged .ensures ∙
+    ap (λ (n : ℕ). staged (Refused (record { cause = a .cause; «record» = n; column = a .column })) (a .self)) (c .before .next-number .ensures)
+
+pub refused-spec : {M : Type 1} → statement M
+refused-spec = tie.close (tie.spec next-number-requires staged-requires returns)

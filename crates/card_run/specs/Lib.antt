@@ -1,0 +1,3 @@
+pub mod Stage
+pub mod Running
+pub mod Answer

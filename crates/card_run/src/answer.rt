@@ -1,0 +1,19 @@
+// The answer of a card file.
+use refusal::Refusal;
+use totals::amounts::Totals;
+
+// The numbers of an accepted file.
+pub struct Accepted {
+    pub date: u64,
+    pub movement: u64,
+    pub records: u64,
+    pub batches: u64,
+    pub totals: Totals,
+}
+
+pub enum CardAnswer {
+    // Nothing is refused so far, and the file is not closed.
+    GoingOn,
+    Accepted(Accepted),
+    Refused(Refusal),
+}
