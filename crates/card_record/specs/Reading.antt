@@ -1,0 +1,71 @@
+-- What reading a record answers: at each record "4, .. 6, single fields by position", as far as they look at the record alone.
+use Prim.Native.Nat.{ℕ}
+use mathlib.Core.List.{List}
+use Rattle.refusal.specs.declared.Fault.{Fault}
+use Rattle.refusal.specs.declared.Fault.the-variants.{Nothing, At}
+use Rattle.refusal.specs.Rules.{Rule, firstBroken}
+use Rattle.card_record.specs.declared.kind.Kind.{Kind}
+use Rattle.card_record.specs.declared.kind.Kind.the-variants.{A0, L0, Cv, L9, A9}
+use Rattle.card_record.specs.declared.kind.KindFound.{KindFound}
+use Rattle.card_record.specs.declared.kind.KindFound.the-variants.{Known, Unknown}
+use Rattle.card_record.specs.declared.field.Field.{Field}
+use Rattle.card_record.specs.declared.reading.Reading.{Reading}
+use Rattle.card_record.specs.declared.reading.Reading.the-variants.{
+  Unknown as unknown,
+  Faulty as faulty,
+  A0 as a0,
+  L0 as l0,
+  Cv as cv,
+  L9 as l9,
+  A9 as a9,
+}
+use Rattle.card_record.specs.Field.{recordRules}
+use Rattle.card_record.specs.Kind.{kindOf}
+use Rattle.card_record.specs.A0.{a0Table, a0Of}
+use Rattle.card_record.specs.L0.{l0Table, l0Of}
+use Rattle.card_record.specs.Cv.{cvTable, cvOf}
+use Rattle.card_record.specs.L9.{l9Table, l9Of}
+use Rattle.card_record.specs.A9.{a9Table, a9Of}
+
+-- "Each kind has a width and field table that belong to it alone"
+abbrev pub widthOf : Kind → ℕ
+widthOf A0 = 75
+widthOf L0 = 18
+widthOf Cv = 199
+widthOf L9 = 28
+widthOf A9 = 14
+
+abbrev pub tableOf : Kind → List Field
+tableOf A0 = a0Table
+tableOf L0 = l0Table
+tableOf Cv = cvTable
+tableOf L9 = l9Table
+tableOf A9 = a9Table
+
+-- the rules of a kind that look at one record's width and fields
+abbrev pub kindRules : Kind → ℕ → List ℕ → List Rule
+kindRules kind edition r = recordRules edition r (widthOf kind) (tableOf kind)
+
+-- the numbers of a record of a kind
+unfoldable pub numbersOf : Kind → List ℕ → Reading
+numbersOf A0 r = a0 (a0Of r)
+numbersOf L0 r = l0 (l0Of r)
+numbersOf Cv r = cv (cvOf r)
+numbersOf L9 r = l9 (l9Of r)
+numbersOf A9 r = a9 (a9Of r)
+
+-- the first fault, or where there is none the numbers
+unfoldable pub judgedAs : Kind → Fault → Reading → Reading
+judgedAs kind Nothing numbers = numbers
+judgedAs kind (At cause column) numbers = faulty kind cause column
+
+abbrev pub readAs : Kind → ℕ → List ℕ → Reading
+readAs kind edition r = judgedAs kind (firstBroken (kindRules kind edition r)) (numbersOf kind r)
+
+unfoldable pub readFound : KindFound → ℕ → List ℕ → Reading
+readFound (Known kind) edition r = readAs kind edition r
+readFound Unknown edition r = unknown
+
+-- any bytes as a record
+abbrev pub readingOf : ℕ → List ℕ → Reading
+readingOf edition r = readFound (kindOf r) edition r

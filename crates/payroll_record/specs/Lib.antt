@@ -1,0 +1,9 @@
+pub mod Field
+pub mod Kind
+pub mod Front
+pub mod FileHeader
+pub mod BatchHeader
+pub mod Detail
+pub mod BatchTrailer
+pub mod FileTrailer
+pub mod Reading
