@@ -1,0 +1,3 @@
+mod Found
+mod Ends
+pub mod Steps

@@ -1,0 +1,4 @@
+pub mod Stage
+pub mod Running
+pub mod PayrollFile
+pub mod Answer
