@@ -50,7 +50,8 @@ rowOf (Accepted a) =
       sales = a .totals .sales;
       gross = a .totals .amounts .gross;
       discount = a .totals .amounts .discount;
-      net = a .totals .amounts .net }
+      net = a .totals .amounts .net;
+    }
 rowOf (refused r) =
     record {
       number = numberOf (r .cause);
@@ -63,4 +64,5 @@ rowOf (refused r) =
       sales = 0;
       gross = 0;
       discount = 0;
-      net = 0 }
+      net = 0;
+    }

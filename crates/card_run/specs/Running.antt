@@ -16,7 +16,13 @@ use Rattle.card_record.specs.declared.a0.A0.{A0 as A0Record}
 use Rattle.card_record.specs.declared.cv.Cv.{Cv as CvRecord}
 use Rattle.card_record.specs.declared.reading.Reading.{Reading}
 use Rattle.card_record.specs.declared.reading.Reading.the-variants.{
-  Unknown as unknown, Faulty as faulty, A0 as a0, L0 as l0, Cv as cv, L9 as l9, A9 as a9
+  Unknown as unknown,
+  Faulty as faulty,
+  A0 as a0,
+  L0 as l0,
+  Cv as cv,
+  L9 as l9,
+  A9 as a9,
 }
 use Rattle.card_record.specs.Cv.{payable, joinedRules}
 use Rattle.card_record.specs.Reading.{readingOf}
@@ -49,7 +55,8 @@ staged stage st =
       movement = st .movement;
       batches = st .batches;
       totals = st .totals;
-      batch = st .batch }
+      batch = st .batch;
+    }
 
 -- refused at the record that comes next
 abbrev pub refusedAt : Cause → ℕ → Running → Running
@@ -66,7 +73,8 @@ counted stage st =
       movement = st .movement;
       batches = st .batches;
       totals = st .totals;
-      batch = st .batch }
+      batch = st .batch;
+    }
 
 -- 5, "kind not allowed at this place"
 abbrev pub placeRule : Running → Kind → Rule
@@ -112,7 +120,8 @@ behindA0 st r =
       movement = r .movement;
       batches = st .batches;
       totals = st .totals;
-      batch = st .batch }
+      batch = st .batch;
+    }
 
 -- behind L0: a batch of no sale
 abbrev pub behindL0 : Running → Running
@@ -125,7 +134,8 @@ behindL0 st =
       movement = st .movement;
       batches = st .batches;
       totals = st .totals;
-      batch = noTotals }
+      batch = noTotals;
+    }
 
 -- behind a CV: one sale more, of what is payable
 abbrev pub behindCv : Running → CvRecord → Running
@@ -138,7 +148,8 @@ behindCv st r =
       movement = st .movement;
       batches = st .batches;
       totals = addedTotals (st .totals) (oneSale (payable r));
-      batch = addedTotals (st .batch) (oneSale (payable r)) }
+      batch = addedTotals (st .batch) (oneSale (payable r));
+    }
 
 -- behind L9: one batch more
 abbrev pub behindL9 : Running → Running
@@ -151,7 +162,8 @@ behindL9 st =
       movement = st .movement;
       batches = capped (st .batches) 1;
       totals = st .totals;
-      batch = st .batch }
+      batch = st .batch;
+    }
 
 -- behind a record that keeps the rules
 unfoldable pub behind : Running → Reading → Running

@@ -4,10 +4,24 @@ ghost use mathlib.Core.List.{[], _∷_};
 ghost use Rattle.refusal.specs.Rules.{firstBroken};
 ghost use Rattle.card_run.specs.Answer.{answerOf};
 ghost use Rattle.card_run.specs.Running.{
-    openStage, openOf, nextNumber, staged, refusedAt, counted, placeRule, runRules, behindA0, behindL0, behindCv, behindL9, behind, judgedOf, tookOf, fedOf,
-    closedOf,
+  openStage,
+  openOf,
+  nextNumber,
+  staged,
+  refusedAt,
+  counted,
+  placeRule,
+  runRules,
+  behindA0,
+  behindL0,
+  behindCv,
+  behindL9,
+  behind,
+  judgedOf,
+  tookOf,
+  fedOf,
+  closedOf,
 };
-
 use crate::answer::Accepted;
 use crate::answer::CardAnswer;
 use crate::stage::Stage;
@@ -127,15 +141,19 @@ impl Running {
     fn a0_fault(self, a0: A0) -> Fault
         ensures { λ r. ⌜ r ≡ firstBroken (runRules self (Reading.A0 a0)) ⌝ }
     {
-        self.place_fault(Kind::A0)
-            .earlier(A0::NSEQ.rule(Cause::SequenceWrong, a0.nseq == self.next_number()))
+        self.place_fault(Kind::A0).earlier(A0::NSEQ.rule(
+            Cause::SequenceWrong,
+            a0.nseq == self.next_number(),
+        ))
     }
 
     fn l0_fault(self, l0: L0) -> Fault
         ensures { λ r. ⌜ r ≡ firstBroken (runRules self (Reading.L0 l0)) ⌝ }
     {
-        self.place_fault(Kind::L0)
-            .earlier(L0::NSEQ.rule(Cause::SequenceWrong, l0.nseq == self.next_number()))
+        self.place_fault(Kind::L0).earlier(L0::NSEQ.rule(
+            Cause::SequenceWrong,
+            l0.nseq == self.next_number(),
+        ))
     }
 
     fn cv_fault(self, cv: Cv) -> Fault

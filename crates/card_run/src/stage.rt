@@ -1,7 +1,6 @@
 // How far a card file has come, and which kinds may stand next.
 ghost use mathlib.Core.Path.{_≡_};
 ghost use Rattle.card_run.specs.Stage.{placed};
-
 use card_record::kind::Kind;
 use refusal::Refusal;
 

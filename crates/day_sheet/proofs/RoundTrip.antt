@@ -41,11 +41,12 @@ totals-room t e =
     let net = ltb (t .amounts .net) (10 ^ 17) in
     let e₁ = both-right sales (gross && (discount && (net && agreeing (t .amounts)))) e in
     let e₂ = both-right gross (discount && (net && agreeing (t .amounts))) e₁ in
-    let e₃ = both-right discount (net && agreeing (t .amounts)) e₂ in
-    (leb-true _ _ (both-left sales (gross && (discount && (net && agreeing (t .amounts)))) e),
-    ltb-true _ _ (both-left gross (discount && (net && agreeing (t .amounts))) e₁),
-    ltb-true _ _ (both-left discount (net && agreeing (t .amounts)) e₂),
-    ltb-true _ _ (both-left net (agreeing (t .amounts)) e₃))
+    let e₃ = both-right discount (net && agreeing (t .amounts)) e₂ in (
+      leb-true _ _ (both-left sales (gross && (discount && (net && agreeing (t .amounts)))) e),
+      ltb-true _ _ (both-left gross (discount && (net && agreeing (t .amounts))) e₁),
+      ltb-true _ _ (both-left discount (net && agreeing (t .amounts)) e₂),
+      ltb-true _ _ (both-left net (agreeing (t .amounts)) e₃),
+    )
 
 room : (s : Sheet) → sheetAllowed s ≡ true → Fit version1 (numbersOf s)
 unfolding sheetAllowed
@@ -94,8 +95,8 @@ unfolding readOf readNumbers
 reads-back s e =
     let numbers : numbersIn (bytesOf s) ≡ numbersOf s = written-numbers s ∙ read-back version1 (numbersOf s) (room s e) in
     let digits : holdsOnly Digits (dateAndMovement (bytesOf s)) ≡ true =
-          ap (holdsOnly Digits) (written-digits s) ∙ in-a-row Digits (inBase 10 48 8 (s .date)) (inBase 10 48 6 (s .movement)) ∙
-          both (digits-written 8 (s .date)) (digits-written 6 (s .movement)) in
+    ap (holdsOnly Digits) (written-digits s) ∙ in-a-row Digits (inBase 10 48 8 (s .date)) (inBase 10 48 6 (s .movement)) ∙
+    both (digits-written 8 (s .date)) (digits-written 6 (s .movement)) in
     rw (marked s, digits, numbers, e)
 
 -- so two different allowed sheets have different bytes
@@ -164,9 +165,19 @@ right-places l e d =
     let at-date : t₂ ≡ drop 6 l = ap (drop 1) (drop-drop 2 3 l) ∙ drop-drop 1 5 l in
     let at-movement : t₃ ≡ drop 14 l = ap (drop 8) at-date ∙ drop-drop 8 6 l in
     let date : holdsOnly Digits (take 8 t₂) ≡ true = ap (λ (t : List ℕ). holdsOnly Digits (take 8 t)) at-date ∙ two .0 in
-    let movement : holdsOnly Digits (take 6 t₃) ≡ true = ap (λ (t : List ℕ). holdsOnly Digits (take 6 t)) at-movement ∙ two .1 in
-    (part-right 2 s b₀, (part-right 1 t₁ b₁, (digits-right (take 8 t₂) date, (digits-right (take 6 t₃) movement,
-    (part-right 4 t₄ b₄, (part-right 4 t₅ b₅, (part-right 8 t₆ b₆, (part-right 8 t₇ b₇, (part-right 8 t₈ b₈, tt)))))))))
+    let movement : holdsOnly Digits (take 6 t₃) ≡ true = ap (λ (t : List ℕ). holdsOnly Digits (take 6 t)) at-movement ∙ two .1 in (
+      part-right 2 s b₀,
+      (
+        part-right 1 t₁ b₁,
+        (
+          digits-right (take 8 t₂) date,
+          (
+            digits-right (take 6 t₃) movement,
+            (part-right 4 t₄ b₄, (part-right 4 t₅ b₅, (part-right 8 t₆ b₆, (part-right 8 t₇ b₇, (part-right 8 t₈ b₈, tt))))),
+          ),
+        ),
+      ),
+    )
 
 -- the numbers that were read are the sheet's, the version among them
 same-numbers : (l : List ℕ) → getD (numbersIn l) 0 0 ≡ 1 → numbersOf (sheetIn l) ≡ numbersIn l
@@ -187,8 +198,9 @@ the-one-we-write l s b e =
     let version = eqb-true (getD (numbersIn l) 0 0) 1 (w .1) in
     let rest : length (drop 3 l) ≡ 49 = length-drop 3 l ∙ omega arith in
     let numbers : inPlaces version1 (numbersOf (sheetIn l)) ≡ drop 3 l =
-          ap (inPlaces version1) (same-numbers l version) ∙
-          written-back version1 (drop 3 l) (omega arith) (right-places l b (both-left d ok (w .2))) ∙
-          take-all 49 (drop 3 l) (omega arith) in
-    (ap bytesOf (sym (w .3)) ∙ ap₂ _++_ (sym mark) numbers ∙ take-append-drop 3 l,
-    ap sheetAllowed (sym (w .3)) ∙ both-right d ok (w .2))
+    ap (inPlaces version1) (same-numbers l version) ∙
+    written-back version1 (drop 3 l) (omega arith) (right-places l b (both-left d ok (w .2))) ∙
+    take-all 49 (drop 3 l) (omega arith) in (
+      ap bytesOf (sym (w .3)) ∙ ap₂ _++_ (sym mark) numbers ∙ take-append-drop 3 l,
+      ap sheetAllowed (sym (w .3)) ∙ both-right d ok (w .2),
+    )

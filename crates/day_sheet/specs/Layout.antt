@@ -22,13 +22,13 @@ digits width = record { width = width; form = Digits }
 -- the numbers behind the mark "DSH"
 abbrev pub version1 : List Place
 version1 =
-    bytes 2 ∷ -- "version, 16 bits"
-    bytes 1 ∷ -- "edition, 1 byte"
-    digits 8 ∷ -- "A0 date, 8 ASCII digits"
-    digits 6 ∷ -- "movement, 6"
-    bytes 4 ∷ -- "batches and sales, 4 bytes each"
+    bytes 2 ∷  -- "version, 16 bits"
+    bytes 1 ∷  -- "edition, 1 byte"
+    digits 8 ∷  -- "A0 date, 8 ASCII digits"
+    digits 6 ∷  -- "movement, 6"
+    bytes 4 ∷  -- "batches and sales, 4 bytes each"
     bytes 4 ∷
-    bytes 8 ∷ -- "gross, discount, net, 8 bytes each"
+    bytes 8 ∷  -- "gross, discount, net, 8 bytes each"
     bytes 8 ∷
     bytes 8 ∷ []
 
@@ -49,7 +49,9 @@ sheetOf ns =
       totals =
           record {
             sales = getD ns 5 0;
-            amounts = record { gross = getD ns 6 0; discount = getD ns 7 0; net = getD ns 8 0 } } }
+            amounts = record { gross = getD ns 6 0; discount = getD ns 7 0; net = getD ns 8 0 };
+          };
+    }
 
 -- numbers, each in its place, in a row
 unfoldable pub inPlaces : List Place → List ℕ → List ℕ

@@ -4,7 +4,6 @@ ghost use mathlib.Core.Bool.{true};
 ghost use lib.ListN.{length};
 ghost use Rattle.text.specs.Alphabet.{holdsOnly};
 ghost use Rattle.day_sheet.specs.Reading.{nowhere, isMarked, dateAndMovement, sheetIn, readNumbers, readOf};
-
 use crate::layout;
 use crate::number::value_of_bytes;
 use crate::sheet::Sheet;

@@ -1,7 +1,6 @@
 // The numbers of a day sheet, and whether they are allowed.
 ghost use mathlib.Core.Path.{_≡_};
 ghost use Rattle.day_sheet.specs.Sheet.{totalsAllowed, sheetAllowed};
-
 use totals::amounts::Totals;
 
 // The date is the number AAAAMMDD.

@@ -5,7 +5,6 @@ ghost use Prim.Native.Nat.{_≤_};
 ghost use lib.ListN.{length, take, drop};
 ghost use Rattle.day_sheet.specs.Layout.{frontBytes, restBytes, bytesOf};
 ghost use Rattle.day_sheet.specs.Reading.{Writes};
-
 use crate::layout;
 use crate::number::Form;
 use crate::sheet::Sheet;

@@ -24,6 +24,7 @@ rowOf (Accepted a) =
       records = a .records;
       batches = a .batches;
       payments = a .payments;
-      amount = a .amount }
+      amount = a .amount;
+    }
 rowOf (Refused r) =
     record { number = numberOf (r .cause); record-number = r .«record»; column = r .column; records = 0; batches = 0; payments = 0; amount = 0 }

@@ -12,14 +12,26 @@ use Rattle.refusal.specs.Rules.{Rule, ruleAt, firstBroken}
 use Rattle.totals.specs.Sum.{capped}
 use Rattle.payroll_record.specs.declared.kind.Kind.{Kind}
 use Rattle.payroll_record.specs.declared.kind.Kind.the-variants.{
-  FileHeader, BatchHeader, SegmentA, SegmentB, SegmentZ, BatchTrailer, FileTrailer
+  FileHeader,
+  BatchHeader,
+  SegmentA,
+  SegmentB,
+  SegmentZ,
+  BatchTrailer,
+  FileTrailer,
 }
 use Rattle.payroll_record.specs.declared.file_header.FileHeader.{FileHeader as Header}
 use Rattle.payroll_record.specs.declared.detail.Detail.{Detail}
 use Rattle.payroll_record.specs.declared.reading.Reading.{Reading}
 use Rattle.payroll_record.specs.declared.reading.Reading.the-variants.{
-  WrongWidth as wrongWidth, UnknownKind as unknownKind, UnknownSegment as unknownSegment, FileHeader as fileHeader,
-  BatchHeader as batchHeader, Detail as detail, BatchTrailer as batchTrailer, FileTrailer as fileTrailer
+  WrongWidth as wrongWidth,
+  UnknownKind as unknownKind,
+  UnknownSegment as unknownSegment,
+  FileHeader as fileHeader,
+  BatchHeader as batchHeader,
+  Detail as detail,
+  BatchTrailer as batchTrailer,
+  FileTrailer as fileTrailer,
 }
 use Rattle.payroll_record.specs.Field.{numberRules}
 use Rattle.payroll_file.specs.declared.stage.Stage.{Stage}
@@ -49,7 +61,8 @@ staged stage st =
       batches = st .batches;
       payments = st .payments;
       amount = st .amount;
-      batch = st .batch }
+      batch = st .batch;
+    }
 
 -- a refusal at the record that comes next
 abbrev pub refusalAt : Cause → ℕ → Running → Refusal
@@ -72,7 +85,8 @@ counted stage st =
       batches = st .batches;
       payments = st .payments;
       amount = st .amount;
-      batch = oneMore (st .batch) }
+      batch = oneMore (st .batch);
+    }
 
 -- 5, "kind not allowed at this place"
 abbrev pub placeRule : Running → Kind → Rule
@@ -124,7 +138,8 @@ behindHeader st r =
       batches = st .batches;
       payments = st .payments;
       amount = st .amount;
-      batch = oneMore (st .batch) }
+      batch = oneMore (st .batch);
+    }
 
 -- behind a batch header: a batch of one record
 abbrev pub behindBatchHeader : Running → Running
@@ -136,7 +151,8 @@ behindBatchHeader st =
       batches = capped (st .batches) 1;
       payments = st .payments;
       amount = st .amount;
-      batch = record { records = 1; details = 0; sum = 0 } }
+      batch = record { records = 1; details = 0; sum = 0 };
+    }
 
 -- behind a detail, with so many payments more, of an amount
 abbrev pub behindSegment : Running → Stage → ℕ → ℕ → Running
@@ -148,7 +164,8 @@ behindSegment st stage payments amount =
       batches = st .batches;
       payments = capped (st .payments) payments;
       amount = capped (st .amount) amount;
-      batch = record { records = capped (st .batch .records) 1; details = capped (st .batch .details) 1; sum = capped (st .batch .sum) amount } }
+      batch = record { records = capped (st .batch .records) 1; details = capped (st .batch .details) 1; sum = capped (st .batch .sum) amount };
+    }
 
 -- an A is a payment of its amount, "payments (A records)"; a detail is of no other kind than A, B and Z
 unfoldable pub behindDetailAs : Kind → Running → ℕ → Running

@@ -3,7 +3,13 @@
 use mathlib.Core.Bool.{Bool, true, false}
 use Rattle.payroll_record.specs.declared.kind.Kind.{Kind}
 use Rattle.payroll_record.specs.declared.kind.Kind.the-variants.{
-  FileHeader, BatchHeader, SegmentA, SegmentB, SegmentZ, BatchTrailer, FileTrailer
+  FileHeader,
+  BatchHeader,
+  SegmentA,
+  SegmentB,
+  SegmentZ,
+  BatchTrailer,
+  FileTrailer,
 }
 use Rattle.payroll_file.specs.declared.stage.Stage.{Stage}
 use Rattle.payroll_file.specs.declared.stage.Stage.the-variants.{Start, BetweenBatches, InBatch, BehindA, BehindB, Ended, Refused}

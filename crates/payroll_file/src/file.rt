@@ -1,7 +1,6 @@
 // A payroll file read whole.
 ghost use mathlib.Core.Path.{_≡_};
 ghost use Rattle.payroll_file.specs.PayrollFile.{unendedOf, lineOf, endedOf, cutShortOf, endOf, checkOf};
-
 use crate::answer::Accepted;
 use crate::answer::PayrollAnswer;
 use crate::running::Running;

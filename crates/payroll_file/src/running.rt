@@ -3,10 +3,22 @@ ghost use mathlib.Core.Path.{_≡_};
 ghost use mathlib.Core.List.{[], _∷_};
 ghost use Rattle.refusal.specs.Rules.{firstBroken};
 ghost use Rattle.payroll_file.specs.Running.{
-    opened, nextNumber, staged, refusalAt, refusedAt, counted, placeRule, runRules, behindHeader, behindBatchHeader, behindSegment, behindDetail, behind,
-    judgedOf, tookOf,
+  opened,
+  nextNumber,
+  staged,
+  refusalAt,
+  refusedAt,
+  counted,
+  placeRule,
+  runRules,
+  behindHeader,
+  behindBatchHeader,
+  behindSegment,
+  behindDetail,
+  behind,
+  judgedOf,
+  tookOf,
 };
-
 use crate::stage::Stage;
 use payroll_record::batch_header::BatchHeader;
 use payroll_record::batch_trailer::BatchTrailer;
@@ -40,6 +52,7 @@ pub struct Running {
 
 // The largest batch number, and the first amount that is too large.
 const LAST_BATCH: u64 = 9998;
+
 const TOO_LARGE: u64 = 10_000_000_000_000_000_000;
 
 impl Running {
@@ -121,7 +134,11 @@ impl Running {
         ensures { λ r. ⌜ r ≡ firstBroken (placeRule self kind ∷ []) ⌝ }
     {
         let stage = self.stage;
-        refusal::rule(Cause::KindNotAllowedHere, 0, stage.allows(self.is_return, kind))
+        refusal::rule(
+            Cause::KindNotAllowedHere,
+            0,
+            stage.allows(self.is_return, kind),
+        )
     }
 
     // A batch header is numbered one more than the batches before it, at most 9998.
@@ -182,7 +199,11 @@ impl Running {
         self.place_fault(Kind::FileTrailer)
             .earlier(front)
             .earlier(FileTrailer::BATCHES.should_be(batches, self.batches, Cause::TrailerDisagrees))
-            .earlier(FileTrailer::RECORDS.should_be(records, self.next_number(), Cause::TrailerDisagrees))
+            .earlier(FileTrailer::RECORDS.should_be(
+                records,
+                self.next_number(),
+                Cause::TrailerDisagrees,
+            ))
             .earlier(refusal::rule(Cause::TrailerDisagrees, 0, self.amount < TOO_LARGE))
     }
 

@@ -1,7 +1,6 @@
 // How far a payroll file has come, and which kinds may stand next.
 ghost use mathlib.Core.Path.{_≡_};
 ghost use Rattle.payroll_file.specs.Stage.{first, betweenBatches, inBatch, placed};
-
 use payroll_record::kind::Kind;
 use refusal::Refusal;
 

@@ -35,7 +35,7 @@ below-from n k [] e h = rw add-zero h
 below-from n k (b ∷ s) e h =
     let d : allowed Digits b ≡ true = both-left (allowed Digits b) (holdsOnly Digits s) e in
     let more = below-from (n * 10 + (b - 48)) (k + 1) s (both-right (allowed Digits b) (holdsOnly Digits s) e)
-          (below-more n k (b - 48) h (omega (arith, digit-high b d))) in
+    (below-more n k (b - 48) h (omega (arith, digit-high b d))) in
     subst (λ (m : ℕ). valueFrom (n * 10 + (b - 48)) s < 10 ^ m) (omega arith) more
 
 pub value-below : (s : List ℕ) → holdsOnly Digits s ≡ true → valueOf s < 10 ^ length s

@@ -5,7 +5,6 @@ ghost use Prim.Native.Nat.{_≤_};
 ghost use lib.ListN.{length};
 ghost use Rattle.text.specs.Alphabet.{holdsOnly};
 ghost use Rattle.text.specs.Number.{valueOf, numberOf, plainNumber};
-
 use crate::alphabet::Alphabet;
 
 // What a part says when it is read as a number.

@@ -42,9 +42,11 @@ loop-less c = search needs
 
 loop-again : tie.Need-loop-again Inv-loop μ-loop
 loop-again c =
-    let l = c .before .before .loop in
-    (search needs, byte-more (l .value) (l .i) _ (l .inv .1) (omega (arith, c .shared-slice-known .given (l .i))),
-    sym (digit-more 256 0 (l .value) _ (l .i) (c .before .loop-test .taken) ∙ rw sub-zero) ∙ l .inv .2)
+    let l = c .before .before .loop in (
+      search needs,
+      byte-more (l .value) (l .i) _ (l .inv .1) (omega (arith, c .shared-slice-known .given (l .i))),
+      sym (digit-more 256 0 (l .value) _ (l .i) (c .before .loop-test .taken) ∙ rw sub-zero) ∙ l .inv .2,
+    )
 
 returns : tie.Need-returns Inv-loop μ-loop
 returns c = sym (digits-end 256 0 _ _ (c .before .loop .i) (c .loop-test .left)) ∙ c .before .loop .inv .2

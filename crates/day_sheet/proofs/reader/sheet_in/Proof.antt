@@ -74,11 +74,11 @@ returns c =
     let right = date-and-movement s (start .pre .1) in
     let edition = c .before .before .before .before .before .before .before .before .before .value-of-bytes .ensures ∙ sym (in-sheet 1 s (lit< tt)) in
     let date =
-          c .before .before .before .before .before .before .or-zero .ensures ∙ ap plainNumber (c .before .before .before .before .before .before .before .number-of .ensures) ∙
-          decimal-value (take 8 (drop 6 s)) (right .0) (simp length-take (omega arith)) ∙ sym (in-sheet 2 s (lit< tt)) in
+    c .before .before .before .before .before .before .or-zero .ensures ∙ ap plainNumber (c .before .before .before .before .before .before .before .number-of .ensures) ∙
+    decimal-value (take 8 (drop 6 s)) (right .0) (simp length-take (omega arith)) ∙ sym (in-sheet 2 s (lit< tt)) in
     let movement =
-          c .before .before .before .or-zero2 .ensures ∙ ap plainNumber (c .before .before .before .before .number-of2 .ensures) ∙
-          decimal-value (take 6 (drop 14 s)) (right .1) (simp length-take (omega arith)) ∙ sym (in-sheet 3 s (lit< tt)) in
+    c .before .before .before .or-zero2 .ensures ∙ ap plainNumber (c .before .before .before .before .number-of2 .ensures) ∙
+    decimal-value (take 6 (drop 14 s)) (right .1) (simp length-take (omega arith)) ∙ sym (in-sheet 3 s (lit< tt)) in
     let batches = c .before .value-of-bytes2 .ensures ∙ sym (in-sheet 4 s (lit< tt)) in
     let totals = c .totals-in .ensures in
     λ i. record { edition = edition i; date = date i; movement = movement i; batches = batches i; totals = totals i }

@@ -22,9 +22,12 @@ returns-4 : tie.Need-returns-4
 unfolding totalsAllowed
 returns-4 c =
     let d = c .before .before in
-    rw
-    (le-leb _ _ (d .before .before .before .before .if1 .left), lt-ltb _ _ (d .before .before .if2 .left), lt-ltb _ _ (d .if3 .left),
-    le-ltb _ _ (c .if4 .taken))
+    rw (
+      le-leb _ _ (d .before .before .before .before .if1 .left),
+      lt-ltb _ _ (d .before .before .if2 .left),
+      lt-ltb _ _ (d .if3 .left),
+      le-ltb _ _ (c .if4 .taken),
+    )
 
 agree-requires : tie.Need-agree-requires
 agree-requires c κs = search needs
@@ -34,9 +37,12 @@ unfolding totalsAllowed
 returns-5 c =
     let d = c .before .before .before in
     c .agree .ensures ∙
-    sym (rw
-    (le-leb _ _ (d .before .before .before .before .if1 .left), lt-ltb _ _ (d .before .before .if2 .left), lt-ltb _ _ (d .if3 .left),
-    lt-ltb _ _ (c .before .if4 .left)))
+    sym (rw (
+      le-leb _ _ (d .before .before .before .before .if1 .left),
+      lt-ltb _ _ (d .before .before .if2 .left),
+      lt-ltb _ _ (d .if3 .left),
+      lt-ltb _ _ (c .before .if4 .left),
+    ))
 
 pub totals-allowed-spec : {M : Type 1} → statement M
 totals-allowed-spec =

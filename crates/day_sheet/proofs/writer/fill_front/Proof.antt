@@ -38,7 +38,7 @@ returns c =
     let edition = filled-more 256 0 (a .sheet .edition) 6 (lit≤ tt) version (c .before .before .before .before .before .before .before .before .before .before .put-at3 .ensures) in
     let date = filled-more 10 48 (a .sheet .date) 14 (lit≤ tt) edition (c .before .before .before .before .before .before .put-at4 .ensures) in
     let movement = filled-more 10 48 (a .sheet .movement) 20 (lit≤ tt) date (c .before .before .put-at5 .ensures) in
-    movement .is ∙ 
+    movement .is ∙
     bracketed [] (inBase 256 0 3 4477768) (inBase 256 0 2 1) (inBase 256 0 1 (a .sheet .edition)) (inBase 10 48 8 (a .sheet .date))
     (inBase 10 48 6 (a .sheet .movement)) (drop 20 (a .out .now))
 

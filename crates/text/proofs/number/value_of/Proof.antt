@@ -42,10 +42,11 @@ cast-value c = omega (arith, digit-high _ (is-digit (c .before)))
 
 add-value : tie.Need-add-value Inv-loop μ-loop
 add-value c =
-    omega
-    (arith,
-    room (c .before .before .loop .value) (c .before .before .loop .i) (omega arith) (c .before .before .loop .inv .1),
-    digit-high _ (is-digit (c .before)))
+    omega (
+      arith,
+      room (c .before .before .loop .value) (c .before .before .loop .i) (omega arith) (c .before .before .loop .inv .1),
+      digit-high _ (is-digit (c .before)),
+    )
 
 add-i : tie.Need-add-i Inv-loop μ-loop
 add-i c = search needs
@@ -55,9 +56,11 @@ loop-less c = search needs
 
 loop-again : tie.Need-loop-again Inv-loop μ-loop
 loop-again c =
-    let l = c .before .before .loop in
-    (search needs, below-more (l .value) (l .i) _ (l .inv .1) (omega (arith, digit-high _ (is-digit (c .before)))),
-    sym (digit-more _ _ _ (c .before .loop-test .taken)) ∙ (l .inv .2))
+    let l = c .before .before .loop in (
+      search needs,
+      below-more (l .value) (l .i) _ (l .inv .1) (omega (arith, digit-high _ (is-digit (c .before)))),
+      sym (digit-more _ _ _ (c .before .loop-test .taken)) ∙ (l .inv .2),
+    )
 
 returns : tie.Need-returns Inv-loop μ-loop
 returns c = sym (digits-end _ _ (c .before .loop .i) (c .loop-test .left)) ∙ (c .before .loop .inv .2)

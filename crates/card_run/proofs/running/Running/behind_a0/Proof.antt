@@ -11,15 +11,15 @@ returns c =
     let e = c .counted .ensures in
     let a = c .before .args .a0 in
     λ i. record {
-        stage = e i .stage;
-        edition = e i .edition;
-        records = e i .records;
-        date = a .date;
-        movement = a .movement;
-        batches = e i .batches;
-        totals = e i .totals;
-        batch = e i .batch;
-      }
+      stage = e i .stage;
+      edition = e i .edition;
+      records = e i .records;
+      date = a .date;
+      movement = a .movement;
+      batches = e i .batches;
+      totals = e i .totals;
+      batch = e i .batch;
+    }
 
 pub behind-a0-spec : {M : Type 1} → statement M
 behind-a0-spec = tie.close (tie.spec counted-requires returns)

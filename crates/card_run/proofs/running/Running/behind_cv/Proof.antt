@@ -28,15 +28,15 @@ returns c =
     let all = c .before .before .added .ensures ∙ ap (addedTotals (a .self .totals)) sale in
     let mine = c .before .added2 .ensures ∙ ap (addedTotals (a .self .batch)) sale in
     λ i. record {
-        stage = e i .stage;
-        edition = e i .edition;
-        records = e i .records;
-        date = e i .date;
-        movement = e i .movement;
-        batches = e i .batches;
-        totals = all i;
-        batch = mine i;
-      }
+      stage = e i .stage;
+      edition = e i .edition;
+      records = e i .records;
+      date = e i .date;
+      movement = e i .movement;
+      batches = e i .batches;
+      totals = all i;
+      batch = mine i;
+    }
 
 pub behind-cv-spec : {M : Type 1} → statement M
 behind-cv-spec =

@@ -14,15 +14,15 @@ returns c =
     let e = c .before .counted .ensures in
     let n = c .none .ensures in
     λ i. record {
-        stage = e i .stage;
-        edition = e i .edition;
-        records = e i .records;
-        date = e i .date;
-        movement = e i .movement;
-        batches = e i .batches;
-        totals = e i .totals;
-        batch = n i;
-      }
+      stage = e i .stage;
+      edition = e i .edition;
+      records = e i .records;
+      date = e i .date;
+      movement = e i .movement;
+      batches = e i .batches;
+      totals = e i .totals;
+      batch = n i;
+    }
 
 pub behind-l0-spec : {M : Type 1} → statement M
 behind-l0-spec = tie.close (tie.spec counted-requires none-requires returns)

@@ -14,15 +14,15 @@ returns c =
     let e = c .before .counted .ensures in
     let n = c .added .ensures in
     λ i. record {
-        stage = e i .stage;
-        edition = e i .edition;
-        records = e i .records;
-        date = e i .date;
-        movement = e i .movement;
-        batches = n i;
-        totals = e i .totals;
-        batch = e i .batch;
-      }
+      stage = e i .stage;
+      edition = e i .edition;
+      records = e i .records;
+      date = e i .date;
+      movement = e i .movement;
+      batches = n i;
+      totals = e i .totals;
+      batch = e i .batch;
+    }
 
 pub behind-l9-spec : {M : Type 1} → statement M
 behind-l9-spec = tie.close (tie.spec counted-requires added-requires returns)

@@ -14,15 +14,15 @@ returns c =
     let e = c .before .staged .ensures in
     let n = c .next-number .ensures in
     λ i. record {
-        stage = e i .stage;
-        edition = e i .edition;
-        records = n i;
-        date = e i .date;
-        movement = e i .movement;
-        batches = e i .batches;
-        totals = e i .totals;
-        batch = e i .batch;
-      }
+      stage = e i .stage;
+      edition = e i .edition;
+      records = n i;
+      date = e i .date;
+      movement = e i .movement;
+      batches = e i .batches;
+      totals = e i .totals;
+      batch = e i .batch;
+    }
 
 pub counted-spec : {M : Type 1} → statement M
 counted-spec = tie.close (tie.spec staged-requires next-number-requires returns)

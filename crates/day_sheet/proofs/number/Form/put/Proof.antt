@@ -45,10 +45,12 @@ loop-again c =
     let l = c .before .before .before .loop in
     let s = c .before .before .before .before .before .args .part .now in
     let j : suc (l .i - 1) ≡ l .i = omega arith in
-    let k : length s - (l .i - 1) ≡ suc (length s - l .i) = omega arith in
-    (search needs, simp length-set (l .inv .1),
-    rw k (one-more _ _ _ (l .part) (l .i - 1) (length s - l .i) (l .left) _ (omega arith) (rw j (l .inv .2)) (l .inv .3) (c .before .last-digit .ensures)),
-    rw k (less-left (base (c .before .before .before .before .before .args .self)) 0 _ (length s - l .i) (l .left) _ (l .inv .3) (c .other-digits .ensures)))
+    let k : length s - (l .i - 1) ≡ suc (length s - l .i) = omega arith in (
+      search needs,
+      simp length-set (l .inv .1),
+      rw k (one-more _ _ _ (l .part) (l .i - 1) (length s - l .i) (l .left) _ (omega arith) (rw j (l .inv .2)) (l .inv .3) (c .before .last-digit .ensures)),
+      rw k (less-left (base (c .before .before .before .before .before .args .self)) 0 _ (length s - l .i) (l .left) _ (l .inv .3) (c .other-digits .ensures)),
+    )
 
 same-length : tie.Need-same-length Inv-loop μ-loop
 same-length c = c .before .loop .inv .1

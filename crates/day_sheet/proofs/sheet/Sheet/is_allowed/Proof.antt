@@ -28,18 +28,24 @@ returns-4 : tie.Need-returns-4
 unfolding sheetAllowed
 returns-4 c =
     let d = c .before .before .before .before in
-    rw
-    (le-leb _ _ (d .before .before .if1 .left), le-leb _ _ (d .if2 .left),
-    sym (c .before .before .before .is-day .ensures) ∙ not-false _ (c .before .before .if3 .left), lt-leb _ _ (c .if4 .taken))
+    rw (
+      le-leb _ _ (d .before .before .if1 .left),
+      le-leb _ _ (d .if2 .left),
+      sym (c .before .before .before .is-day .ensures) ∙ not-false _ (c .before .before .if3 .left),
+      lt-leb _ _ (c .if4 .taken),
+    )
 
 returns-5 : tie.Need-returns-5
 unfolding sheetAllowed
 returns-5 c =
     let d = c .before .before .before .before .before .before in
-    rw
-    (le-leb _ _ (d .before .before .if1 .left), le-leb _ _ (d .if2 .left),
-    sym (c .before .before .before .before .before .is-day .ensures) ∙ not-false _ (c .before .before .before .before .if3 .left), le-leb _ _ (c .before .before .if4 .left),
-    lt-leb _ _ (c .if5 .taken))
+    rw (
+      le-leb _ _ (d .before .before .if1 .left),
+      le-leb _ _ (d .if2 .left),
+      sym (c .before .before .before .before .before .is-day .ensures) ∙ not-false _ (c .before .before .before .before .if3 .left),
+      le-leb _ _ (c .before .before .if4 .left),
+      lt-leb _ _ (c .if5 .taken),
+    )
 
 totals-allowed-requires : tie.Need-totals-allowed-requires
 totals-allowed-requires c κs = search needs
@@ -50,10 +56,13 @@ returns-6 c =
     let e = c .before .before .before .before in
     let d = e .before .before .before .before in
     c .totals-allowed .ensures ∙
-    sym (rw
-    (le-leb _ _ (d .before .before .if1 .left), le-leb _ _ (d .if2 .left),
-    sym (e .before .before .before .is-day .ensures) ∙ not-false _ (e .before .before .if3 .left), le-leb _ _ (e .if4 .left),
-    le-leb _ _ (c .before .before .if5 .left)))
+    sym (rw (
+      le-leb _ _ (d .before .before .if1 .left),
+      le-leb _ _ (d .if2 .left),
+      sym (e .before .before .before .is-day .ensures) ∙ not-false _ (e .before .before .if3 .left),
+      le-leb _ _ (e .if4 .left),
+      le-leb _ _ (c .before .before .if5 .left),
+    ))
 
 pub is-allowed-spec : {M : Type 1} → statement M
 is-allowed-spec =

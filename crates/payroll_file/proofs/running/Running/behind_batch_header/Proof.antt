@@ -14,14 +14,14 @@ returns c =
     let e = c .before .counted .ensures in
     let n = c .added .ensures in
     λ i. record {
-        stage = e i .stage;
-        «is_return» = e i .«is_return»;
-        records = e i .records;
-        batches = n i;
-        payments = e i .payments;
-        amount = e i .amount;
-        batch = record { records = 1; details = 0; sum = 0 };
-      }
+      stage = e i .stage;
+      «is_return» = e i .«is_return»;
+      records = e i .records;
+      batches = n i;
+      payments = e i .payments;
+      amount = e i .amount;
+      batch = record { records = 1; details = 0; sum = 0 };
+    }
 
 pub behind-batch-header-spec : {M : Type 1} → statement M
 behind-batch-header-spec = tie.close (tie.spec counted-requires added-requires returns)

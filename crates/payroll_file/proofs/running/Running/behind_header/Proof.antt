@@ -11,14 +11,14 @@ returns c =
     let h = c .before .args .header in
     let e = c .counted .ensures in
     λ i. record {
-        stage = e i .stage;
-        «is_return» = h .«is_return»;
-        records = e i .records;
-        batches = e i .batches;
-        payments = e i .payments;
-        amount = e i .amount;
-        batch = e i .batch;
-      }
+      stage = e i .stage;
+      «is_return» = h .«is_return»;
+      records = e i .records;
+      batches = e i .batches;
+      payments = e i .payments;
+      amount = e i .amount;
+      batch = e i .batch;
+    }
 
 pub behind-header-spec : {M : Type 1} → statement M
 behind-header-spec = tie.close (tie.spec counted-requires returns)

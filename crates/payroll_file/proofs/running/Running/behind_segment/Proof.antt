@@ -30,14 +30,14 @@ returns c =
     let d = c .before .before .before .before .added2 .ensures in
     let s = c .before .before .before .added3 .ensures in
     λ i. record {
-        stage = e i .stage;
-        «is_return» = e i .«is_return»;
-        records = e i .records;
-        batches = e i .batches;
-        payments = p i;
-        amount = t i;
-        batch = record { records = r i; details = d i; sum = s i };
-      }
+      stage = e i .stage;
+      «is_return» = e i .«is_return»;
+      records = e i .records;
+      batches = e i .batches;
+      payments = p i;
+      amount = t i;
+      batch = record { records = r i; details = d i; sum = s i };
+    }
 
 pub behind-segment-spec : {M : Type 1} → statement M
 behind-segment-spec =

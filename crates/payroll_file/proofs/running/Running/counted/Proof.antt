@@ -19,14 +19,14 @@ returns c =
     let n = c .next-number .ensures in
     let m = c .before .before .added .ensures in
     λ i. record {
-        stage = e i .stage;
-        «is_return» = e i .«is_return»;
-        records = n i;
-        batches = e i .batches;
-        payments = e i .payments;
-        amount = e i .amount;
-        batch = record { records = m i; details = open-batch .details; sum = open-batch .sum };
-      }
+      stage = e i .stage;
+      «is_return» = e i .«is_return»;
+      records = n i;
+      batches = e i .batches;
+      payments = e i .payments;
+      amount = e i .amount;
+      batch = record { records = m i; details = open-batch .details; sum = open-batch .sum };
+    }
 
 pub counted-spec : {M : Type 1} → statement M
 counted-spec = tie.close (tie.spec added-requires staged-requires next-number-requires returns)
