@@ -9,8 +9,10 @@ use Rattle.calendar.specs.Day.{isDay}
 use Rattle.pan.specs.CardField.{wellFormed, leadingZeros}
 use Rattle.pan.specs.HiddenPlaces.{hiddenPlaces}
 use Rattle.pan.specs.Masked.{starWhere}
+use Rattle.refusal.specs.Rules.{firstBroken}
+use Rattle.card_record.specs.Cv.{joinedRules}
 use Rattle.demands.specs.Examples.{asWritten, examples, allAsWritten}
 
 pub hold : allAsWritten examples ≡ true
-unfolding allowed holdsOnly valueFrom sameBytes daysIn isDay wellFormed leadingZeros hiddenPlaces starWhere asWritten allAsWritten
+unfolding allowed holdsOnly valueFrom sameBytes daysIn isDay wellFormed leadingZeros hiddenPlaces starWhere firstBroken joinedRules asWritten allAsWritten
 hold = refl

@@ -1,0 +1,152 @@
+-- FEEDING EQUALS THE WHOLE. A file of records is cut into the records with their CR, so reading it whole feeds them one by one and closes.
+-- After some of them: a run that was refused stays so, and any other is refused only at a later record, since a run counts its records.
+use Prim.Native.Nat.{ℕ, suc, _+_, _≤_, _<_}
+use mathlib.Core.Path.{_≡_, refl, sym, _∙_, ap, subst}
+use mathlib.Core.List.{List, [], _∷_, _++_, map}
+use mathlib.Core.Bool.{true}
+use native.Mathlib.Omega.{arith}
+use lib.ListN.{length}
+use borrow.Author.Tests.{le-leb, lt-leb}
+use Rattle.refusal.specs.declared.Refusal.{Refusal}
+use Rattle.lines.specs.Lines.{cr, allNoLf, joined, withCr}
+use Rattle.lines.proofs.Cuts.{cut-joined}
+use Rattle.lines.proofs.Ends.{cr-ends, before-last}
+use Rattle.card_record.specs.Reading.{readingOf}
+use Rattle.card_run.specs.declared.stage.Stage.{Stage}
+use Rattle.card_run.specs.declared.stage.Stage.the-variants.{Start, BetweenBatches, InBatch, Ended, Closed, Refused}
+use Rattle.card_run.specs.declared.running.Running.{Running}
+use Rattle.card_run.specs.declared.answer.Accepted.{Accepted as AcceptedFile}
+use Rattle.card_run.specs.declared.answer.CardAnswer.the-variants.{GoingOn, Accepted as accepted, Refused as refused}
+use Rattle.card_run.specs.Running.{openOf, nextNumber, tookAt, fedOf, closedAt, closedOf}
+use Rattle.card_run.specs.Answer.{answerAt, answerOf}
+use Rattle.card_file.specs.CardFile.{lineOf, linesOf, endOf, ranOf, checkOf}
+use Rattle.demands.specs.Feeding.{fedAll, upTo, FedAsWhole, RefusedForGood, badEdition, afterTheEnd, AfterAcceptedClose, OnePastTheLast}
+use Rattle.demands.proofs.Stays as stays
+use Rattle.demands.proofs.Standing.{StandsAt, Stands, next-number, fed-all, fed-open}
+
+-- the line of a record with its CR is the record
+line-is-record : (st : Running) (r : List ℕ) → lineOf st (withCr r) ≡ fedOf st r
+line-is-record st r = rw (cr-ends r) (ap (fedOf st) (before-last r cr))
+
+lines-are-records : (st : Running) (rs : List (List ℕ)) → linesOf st (map withCr rs) ≡ fedAll st rs
+unfolding linesOf fedAll
+lines-are-records st [] = refl
+lines-are-records st (r ∷ rs) = ap (λ next. linesOf next (map withCr rs)) (line-is-record st r) ∙ lines-are-records (fedOf st r) rs
+
+-- closing gives the file's answer
+whole : (edition : ℕ) (rs : List (List ℕ)) → allNoLf rs ≡ true → answerOf (closedOf (fedAll (openOf edition) rs)) ≡ checkOf edition (joined rs)
+unfolding endOf
+whole edition rs e =
+    sym (ap (λ ls. answerOf (ranOf (openOf edition) ls)) (cut-joined rs e) ∙ ap (λ st. answerOf (closedOf st)) (lines-are-records (openOf edition) rs))
+
+-- a refusal is given from its record on, and not before
+given : (k : ℕ) (x : Refusal) → x .«record» ≤ k → refused x ≡ upTo k (refused x)
+given k x h = rw (le-leb (x .«record») k h)
+
+not-yet : (k : ℕ) (x : Refusal) → k < x .«record» → GoingOn ≡ upTo k (refused x)
+not-yet k x h = rw (lt-leb (x .«record») k h)
+
+-- a run refused from the record behind the k-th on, or not at all, has no refusal up to the k-th when it is closed
+closed-later : (k n : ℕ) (st : Running) → k ≤ n → Stands (suc k) n st → GoingOn ≡ upTo k (answerOf (closedOf st))
+unfolding closedAt answerAt
+closed-later k n st low = by (st .stage) refl
+  where
+    by : (s : Stage) → st .stage ≡ s → StandsAt (suc k) n s st → GoingOn ≡ upTo k (answerOf (closedAt s st))
+    by Start e h = not-yet k _ (omega (arith, next-number st n h))
+    by BetweenBatches e h = not-yet k _ (omega (arith, next-number st n h))
+    by InBatch e h = not-yet k _ (omega (arith, next-number st n h))
+    by Ended e h = refl
+    by Closed e h = absurd h
+    by (Refused x) e h = not-yet k x (h .0) ∙ ap (upTo k) (sym (stays.answer-of st x e))
+
+-- after k records: the refusal up to there, of what the rest leads to
+after : (k : ℕ) (st : Running) (left : List (List ℕ)) → Stands 0 k st → answerOf st ≡ upTo k (answerOf (closedOf (fedAll st left)))
+unfolding answerAt
+after k st left = by (st .stage) refl
+  where
+    later : (s : Stage) → st .stage ≡ s → answerAt s st ≡ GoingOn → StandsAt (suc k) k s st →
+        answerOf st ≡ upTo k (answerOf (closedOf (fedAll st left)))
+    later s e going h =
+        ap (λ s. answerAt s st) e ∙ going ∙
+        closed-later k (k + length left) (fedAll st left) (omega arith)
+        (fed-all (suc k) k st left (omega arith) (subst (λ s. StandsAt (suc k) k s st) (sym e) h))
+
+    by : (s : Stage) → st .stage ≡ s → StandsAt 0 k s st → answerOf st ≡ upTo k (answerOf (closedOf (fedAll st left)))
+    by Start e h = later Start e refl h
+    by BetweenBatches e h = later BetweenBatches e refl h
+    by InBatch e h = later InBatch e refl h
+    by Ended e h = later Ended e refl h
+    by Closed e h = absurd h
+    by (Refused x) e h =
+        let kept : closedOf (fedAll st left) ≡ st = ap closedOf (stays.fed-all x st left e) ∙ stays.closed x st e in
+        let is : answerOf st ≡ refused x = stays.answer-of st x e in
+        is ∙ given k x (h .1) ∙ ap (upTo k) (sym (ap answerOf kept ∙ is))
+
+-- some records, and then the others
+fed-in-parts : (st : Running) (a b : List (List ℕ)) → fedAll st (a ++ b) ≡ fedAll (fedAll st a) b
+unfolding fedAll
+fed-in-parts st [] b = refl
+fed-in-parts st (r ∷ a) b = fed-in-parts (fedOf st r) a b
+
+-- THE THEOREM: "Equality with the whole holds for records without LF"
+pub fed-as-whole : (edition : ℕ) (records : List (List ℕ)) → allNoLf records ≡ true → FedAsWhole edition records
+fed-as-whole edition records clear =
+    record {
+      closed = whole edition records clear;
+      after-each = λ fed left split.
+          let st = fedAll (openOf edition) fed in
+          let all : fedAll (openOf edition) records ≡ fedAll st left = ap (fedAll (openOf edition)) split ∙ fed-in-parts (openOf edition) fed left in
+          after (length fed) st left (fed-open edition fed) ∙
+          ap (λ next. upTo (length fed) (answerOf (closedOf next))) (sym all) ∙
+          ap (upTo (length fed)) (whole edition records clear);
+    }
+
+-- "Once refused, every later call gives that same refusal", in every state
+pub refused-for-good : (st : Running) (x : Refusal) → answerOf st ≡ refused x → RefusedForGood st x
+refused-for-good st x e calls = ap answerOf (stays.called-all x st calls (stays.stage-of st x e)) ∙ e
+
+-- "A bad edition is refused, 1, from the start"
+pub bad-edition : (edition : ℕ) → (edition ≡ 1 → ⊥) → (edition ≡ 2 → ⊥) → RefusedForGood (openOf edition) badEdition
+bad-edition edition one two = refused-for-good (openOf edition) badEdition (stays.bad-edition-opens edition one two)
+
+-- an accepted answer is that of a closed run
+closed-stage : (st : Running) (answer : AcceptedFile) → answerOf st ≡ accepted answer → st .stage ≡ Closed
+unfolding answerAt
+closed-stage st answer = by (st .stage)
+  where
+    by : (s : Stage) → answerAt s st ≡ accepted answer → s ≡ Closed
+    by Start e = cc
+    by BetweenBatches e = cc
+    by InBatch e = cc
+    by Ended e = cc
+    by Closed e = refl
+    by (Refused x) e = cc
+
+-- "After an accepted close, a further record is 13 and a further close the same answer", in every state
+pub after-accepted-close : (st : Running) (answer : AcceptedFile) → answerOf st ≡ accepted answer → AfterAcceptedClose st answer
+unfolding answerAt tookAt closedAt
+after-accepted-close st answer e =
+    let s = closed-stage st answer e in
+    record {
+      record-more = λ r. refused-for-good (fedOf st r) (afterTheEnd st) (ap (λ s. answerOf (tookAt s st (readingOf (st .edition) r))) s);
+      close-more = ap (λ s. answerOf (closedAt s st)) s ∙ e;
+    }
+
+-- and the record is "one past the last"
+pub one-past-the-last : (edition : ℕ) (records : List (List ℕ)) (answer : AcceptedFile) →
+    answerOf (closedOf (fedAll (openOf edition) records)) ≡ accepted answer → OnePastTheLast edition records
+unfolding answerAt closedAt
+one-past-the-last edition records answer =
+    by (fedAll (openOf edition) records .stage) refl (fed-open edition records)
+  where
+    st : Running
+    st = fedAll (openOf edition) records
+
+    by : (s : Stage) → st .stage ≡ s → StandsAt 0 (length records) s st → answerOf (closedAt s st) ≡ accepted answer →
+        nextNumber (closedAt s st) ≡ suc (length records)
+    by Start t h e = cc
+    by BetweenBatches t h e = cc
+    by InBatch t h e = cc
+    by Ended t h e = next-number st (length records) h
+    by Closed t h e = absurd h
+    by (Refused x) t h e = let same = stays.answer-of st x t in cc
