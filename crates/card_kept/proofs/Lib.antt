@@ -1,0 +1,15 @@
+pub mod FieldsKept
+pub mod RecordsKept
+pub mod Sales
+pub mod Next
+pub mod Steps
+pub mod PlainTotals
+pub mod PlainSteps
+pub mod OneLine
+pub mod Batches
+pub mod Accepting
+pub mod Refused
+pub mod Left
+pub mod Inverting
+pub mod Numbers
+pub mod KeptMeansKept

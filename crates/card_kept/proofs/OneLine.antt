@@ -1,0 +1,58 @@
+-- The records of a file that keeps the rules hold no LF, so the file is cut into them; and pieces that are records joined again are the file.
+use Prim.Native.Nat.{ℕ, suc}
+use mathlib.Core.Path.{_≡_, refl, ap}
+use mathlib.Core.List.{List, [], _∷_, _++_, map, append-assoc}
+use mathlib.Core.Bool.{Bool, true, false, cond, _&&_}
+use lib.Dec.{eqb}
+use Rattle.text.proofs.Alphabets.{both}
+use Rattle.lines.specs.Lines.{lf, cut, rejoined, joined, noLf, allNoLf, withCr}
+use Rattle.lines.proofs.Cuts.{cut-joined}
+use Rattle.card_kept.specs.Kept.{Batch, File, batchRecords, batchesRecords, recordsOf, SalesKept, BatchKept, BatchesKept, FileKept}
+
+-- a CR is no LF
+pub with-cr : (r : List ℕ) → noLf (withCr r) ≡ noLf r
+unfolding noLf
+with-cr [] = refl
+with-cr (b ∷ r) = ap (λ q. cond (eqb b lf) false q) (with-cr r)
+
+-- records, each with its CR and then an LF
+pub pieces-joined : (rs : List (List ℕ)) → rejoined (map withCr rs) [] ≡ joined rs
+unfolding joined rejoined
+pieces-joined [] = refl
+pieces-joined (r ∷ rs) = simp (append-assoc, pieces-joined rs)
+
+-- records in a row
+row-clear : (rs ss : List (List ℕ)) → allNoLf rs ≡ true → allNoLf ss ≡ true → allNoLf (rs ++ ss) ≡ true
+unfolding allNoLf
+row-clear [] ss a b = b
+row-clear (r ∷ rs) ss a b = grouped (noLf r) (allNoLf rs) a (λ h. row-clear rs ss h b)
+  where
+    grouped : (p q : Bool) {s : Bool} → p && q ≡ true → (q ≡ true → s ≡ true) → p && s ≡ true
+    grouped true q a f = f a
+    grouped false q a f = a
+
+module _ (e : ℕ) where
+  sales-clear : (n : ℕ) (rs : List (List ℕ)) → SalesKept e n rs → allNoLf rs ≡ true
+  unfolding allNoLf SalesKept
+  sales-clear n [] k = refl
+  sales-clear n (r ∷ rs) (k, ks) = both (k .kind .in-one-line) (sales-clear (suc n) rs ks)
+
+  batch-clear : (n : ℕ) (b : Batch) → BatchKept e n b → allNoLf (batchRecords b) ≡ true
+  unfolding allNoLf
+  batch-clear n b k =
+      both (k .l0 .in-one-line) (row-clear (b .sales) (b .l9 ∷ []) (sales-clear (suc n) (b .sales) (k .sales)) (both (k .l9 .kind .in-one-line) refl))
+
+  batches-clear : (n : ℕ) (bs : List Batch) → BatchesKept e n bs → allNoLf (batchesRecords bs) ≡ true
+  unfolding allNoLf BatchesKept batchesRecords
+  batches-clear n [] k = refl
+  batches-clear n (b ∷ bs) (k, ks) = row-clear (batchRecords b) (batchesRecords bs) (batch-clear n b k) (batches-clear _ bs ks)
+
+  file-clear : (f : File) → FileKept e f → allNoLf (recordsOf f) ≡ true
+  unfolding allNoLf
+  file-clear f k =
+      both (k .a0 .in-one-line)
+      (row-clear (batchesRecords (f .batches)) (f .a9 ∷ []) (batches-clear 2 (f .batches) (k .batches)) (both (k .a9 .kind .in-one-line) refl))
+
+  -- so the file is cut into its records, each with its CR
+  pub file-cut : (f : File) → FileKept e f → cut (joined (recordsOf f)) ≡ record { pieces = map withCr (recordsOf f); rest = [] }
+  file-cut f k = cut-joined (recordsOf f) (file-clear f k)

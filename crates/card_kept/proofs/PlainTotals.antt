@@ -1,0 +1,102 @@
+-- Totals of sales as whole numbers: how they are added, how large they are, and that no sum of a file is capped.
+-- Figure by figure.
+use Prim.Native.Nat.{ℕ, suc, _+_, _*_, _^_, _≤_, _<_}
+use mathlib.Core.Path.{_≡_, refl, sym, _∙_, ap, subst}
+use mathlib.Core.List.{List, [], _∷_, _++_}
+use native.Mathlib.Omega.{arith}
+use lib.ListN.{length}
+use Rattle.totals.specs.declared.amounts.Totals.{Totals}
+use Rattle.totals.specs.Amounts.{noTotals, oneSale, addedTotals}
+use Rattle.totals.proofs.Totals.{Figure, sales, gross, discount, net, figureOf, by-figure, figure-added, figure-of-none}
+use Rattle.card_record.specs.Cv.{cvTable, cvOf, payable}
+use Rattle.card_kept.specs.Fields.{FieldsKept}
+use Rattle.card_kept.specs.Kept.{payableGross, payableDiscount, payableNet, sumOver}
+use Rattle.card_kept.proofs.Sales.{plain-cv, payable-is, payable-below}
+
+-- how many sales there are, and the sums of what is payable of them, as whole numbers
+abbrev pub totalsOf : List (List ℕ) → Totals
+totalsOf rs =
+    record {
+      sales = length rs;
+      amounts = record { gross = sumOver payableGross rs; discount = sumOver payableDiscount rs; net = sumOver payableNet rs };
+    }
+
+-- totals added as whole numbers
+abbrev pub plus : Totals → Totals → Totals
+plus t u =
+    record {
+      sales = t .sales + u .sales;
+      amounts = record {
+        gross = t .amounts .gross + u .amounts .gross;
+        discount = t .amounts .discount + u .amounts .discount;
+        net = t .amounts .net + u .amounts .net;
+      };
+    }
+
+pub figure-plus : (f : Figure) (t u : Totals) → figureOf f (plus t u) ≡ figureOf f t + figureOf f u
+unfolding figureOf
+figure-plus sales t u = refl
+figure-plus gross t u = refl
+figure-plus discount t u = refl
+figure-plus net t u = refl
+
+pub plus-none : (t : Totals) → plus t noTotals ≡ t
+plus-none t = by-figure (λ f. simp (figure-plus, figure-of-none) (omega arith))
+
+pub none-plus : (t : Totals) → plus noTotals t ≡ t
+none-plus t = by-figure (λ f. simp (figure-plus, figure-of-none) (omega arith))
+
+pub plus-plus : (t u v : Totals) → plus (plus t u) v ≡ plus t (plus u v)
+plus-plus t u v = by-figure (λ f. simp figure-plus (omega arith))
+
+-- one sale, and sales in a row
+abbrev pub sold : List ℕ → Totals
+sold r = record { sales = 1; amounts = record { gross = payableGross r; discount = payableDiscount r; net = payableNet r } }
+
+pub sold-first : (r : List ℕ) (rs : List (List ℕ)) → totalsOf (r ∷ rs) ≡ plus (sold r) (totalsOf rs)
+unfolding sumOver figureOf
+sold-first r rs = by-figure each
+  where
+    each : (f : Figure) → figureOf f (totalsOf (r ∷ rs)) ≡ figureOf f (plus (sold r) (totalsOf rs))
+    each sales = omega arith
+    each gross = refl
+    each discount = refl
+    each net = refl
+
+pub sold-row : (rs ss : List (List ℕ)) → totalsOf (rs ++ ss) ≡ plus (totalsOf rs) (totalsOf ss)
+unfolding sumOver
+sold-row [] ss = sym (none-plus (totalsOf ss))
+sold-row (r ∷ rs) ss =
+    sold-first r (rs ++ ss) ∙ ap (plus (sold r)) (sold-row rs ss) ∙ sym (plus-plus (sold r) (totalsOf rs) (totalsOf ss)) ∙
+    ap (λ t. plus t (totalsOf ss)) (sym (sold-first r rs))
+
+-- totals of at most so many sales, of which each amount is at most 10^11
+abbrev pub Within : ℕ → Totals → Type 0
+Within n t = (f : Figure) → figureOf f t ≤ 10 ^ 11 * n
+
+-- what is payable of a sale that keeps its fields
+pub sold-is : (e : ℕ) (r : List ℕ) → FieldsKept e r cvTable → oneSale (payable (cvOf r)) ≡ sold r
+sold-is e r k = ap (λ c. oneSale (payable c)) (plain-cv e r k) ∙ ap oneSale (payable-is r)
+
+pub sold-within : (e : ℕ) (r : List ℕ) → FieldsKept e r cvTable → Within 1 (sold r)
+unfolding figureOf
+sold-within e r k = subst (Within 1) (sold-is e r k) each
+  where
+    each : (f : Figure) → figureOf f (oneSale (payable (cvOf r))) ≤ 10 ^ 11 * 1
+    each sales = omega arith
+    each gross = omega (arith, payable-below r .gross)
+    each discount = omega (arith, payable-below r .discount)
+    each net = omega (arith, payable-below r .net)
+
+pub more-within : (n : ℕ) (t : Totals) → Within n t → Within (suc n) t
+more-within n t h f = omega (arith, h f)
+
+pub sold-more : (n : ℕ) (t u : Totals) → Within n t → Within 1 u → Within (suc n) (plus t u)
+sold-more n t u h k f = omega (arith, figure-plus f t u, h f, k f)
+
+pub none-within : (n : ℕ) → Within n noTotals
+none-within n f = omega (arith, figure-of-none f)
+
+-- nothing is capped
+pub not-capped : {n : ℕ} (t u : Totals) → n < 10 ^ 6 → Within n t → Within 1 u → addedTotals t u ≡ plus t u
+not-capped t u l h k = by-figure (λ f. omega (arith, figure-added f t u, figure-plus f t u, h f, k f))

@@ -1,0 +1,5 @@
+pub mod Fields
+pub mod Records
+pub mod Kept
+pub mod Numbers
+pub mod Accepts

@@ -1,0 +1,26 @@
+-- The numbers of an accepted card file are the plain ones.
+use Prim.Native.Nat.{_+_, _^_, _≤_, _<_}
+use mathlib.Core.Path.{_≡_}
+use lib.ListN.{length}
+use Rattle.card_run.specs.declared.answer.Accepted.{Accepted}
+use Rattle.card_kept.specs.Fields.{numberAt}
+use Rattle.card_kept.specs.Kept.{File, recordsOf, payableGross, payableDiscount, payableNet, sumOver, salesOf}
+
+-- what an accepted file's numbers say of its records
+pub record Numbers (f : File) (a : Accepted) : Type 0 where
+  pub date : a .date ≡ numberAt 9 16 (f .a0)
+  pub movement : a .movement ≡ numberAt 23 28 (f .a0)
+  pub records : a .records ≡ length (recordsOf f)
+  pub batches : a .batches ≡ length (f .batches)
+  pub sales : a .totals .sales ≡ length (salesOf f)
+  -- sums of what is payable, as whole numbers
+  pub gross : a .totals .amounts .gross ≡ sumOver payableGross (salesOf f)
+  pub discount : a .totals .amounts .discount ≡ sumOver payableDiscount (salesOf f)
+  pub net : a .totals .amounts .net ≡ sumOver payableNet (salesOf f)
+  -- NSEQ has six digits, so no count and no sum leaves 64 bits
+  pub records-below : a .records ≤ 999999
+  pub gross-below : a .totals .amounts .gross < 10 ^ 17
+  pub discount-below : a .totals .amounts .discount < 10 ^ 17
+  pub net-below : a .totals .amounts .net < 10 ^ 17
+  -- "gross = discount + net", of the whole file
+  pub agree : a .totals .amounts .gross ≡ a .totals .amounts .discount + a .totals .amounts .net

@@ -1,0 +1,94 @@
+// The masked copy of a card file.
+ghost use mathlib.Core.Path.{_≡_};
+ghost use mathlib.Core.List.{_++_};
+ghost use Prim.Native.Nat.{_≤_};
+ghost use lib.ListN.{length, take, drop};
+ghost use Rattle.card_mask.specs.Masked.{maskedPiece, maskedFile};
+ghost use Rattle.card_mask.specs.Mask.{maskAnswer, Masks};
+
+use card_record::card_part::CardPart;
+use card_run::answer::CardAnswer;
+use lines::Found;
+use refusal::Cause;
+use refusal::Refusal;
+
+// Masks the card's part in the copy of one piece, and nothing else.
+fn mask_piece(piece: &[u8], copy: &mut [u8])
+    requires { ⌜ now copy ≡ now piece ⌝ }
+    ensures { λ _. ⌜ now (copy .exit) ≡ maskedPiece (now (piece .entry)) ⌝ }
+{
+    if !lines::ends_in_cr(piece) {
+        return;
+    }
+    let CardPart::From(from) = card_record::card_part::card_part(lines::without_last(piece)) else {
+        return;
+    };
+    pan::mask(&mut copy[from..from + pan::WIDTH]);
+}
+
+// Masks the copy of a file that stands in front of the output, piece by piece.
+fn mask_copy(file: &[u8], out: &mut [u8])
+    requires { ⌜ (length (now file) ≤ length (now out)) × (take (length (now file)) (now out) ≡ now file) ⌝ }
+    ensures { λ _. ⌜ now (out .exit) ≡ maskedFile (now (file .entry)) ++ drop (length (now (file .entry))) (now (out .entry)) ⌝ }
+{
+    let mut at = 0;
+    while at < file.len() {
+        let Found::At(end) = lines::next_lf(file, at) else {
+            return;
+        };
+        mask_piece(&file[at..end], &mut out[at..end]);
+        at = end + 1;
+    }
+}
+
+// Whether an output has room for a file, and the file's answer: 1, then 2, then the file's own.
+fn answer_of(edition: u64, file: &[u8], room: usize) -> CardAnswer
+    ensures { λ r. ⌜ r ≡ maskAnswer edition (now (file .entry)) room ⌝ }
+{
+    if edition < 1 {
+        return CardAnswer::Refused(Refusal {
+            cause: Cause::EditionUnknown,
+            record: 0,
+            column: 0,
+        });
+    }
+    if 2 < edition {
+        return CardAnswer::Refused(Refusal {
+            cause: Cause::EditionUnknown,
+            record: 0,
+            column: 0,
+        });
+    }
+    if room < file.len() {
+        return CardAnswer::Refused(Refusal {
+            cause: Cause::OutputTooShort,
+            record: 0,
+            column: 0,
+        });
+    }
+    card_file::check(edition, file)
+}
+
+// Copies a file into the front of an output that has room for it, and masks the copy.
+fn write_masked(file: &[u8], out: &mut [u8])
+    requires { ⌜ length (now file) ≤ length (now out) ⌝ }
+    ensures { λ _. ⌜ now (out .exit) ≡ maskedFile (now (file .entry)) ++ drop (length (now (file .entry))) (now (out .entry)) ⌝ }
+{
+    bytes::copy(file, out);
+    mask_copy(file, out);
+}
+
+// Writes the masked copy of an accepted file into the front of the output; refused, it changes nothing.
+pub fn mask(edition: u64, file: &[u8], out: &mut [u8]) -> CardAnswer
+    ensures { λ r. ⌜ Masks edition (now (file .entry)) (now (out .entry)) r (now (out .exit)) ⌝ }
+{
+    let answer = answer_of(edition, file, out.len());
+    match answer {
+        CardAnswer::GoingOn => answer,
+        CardAnswer::Refused(_) => answer,
+        CardAnswer::Accepted(_) => {
+            write_masked(file, out);
+            answer
+        }
+    }
+}
