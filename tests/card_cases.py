@@ -1,0 +1,474 @@
+#!/usr/bin/env python3
+"""Our own cases of card files, written by hand from document 01.
+
+    tests/card_cases.py           write the files below
+    tests/card_cases.py --list    and print where in `stdout` each case stands, its name and its answer
+
+It writes
+    crates/card_cases/data/own.cases    whole files:          edition (1 byte), length (4), the file
+    crates/feed_cases/data/own.cases    record by record:     edition (1), length (4), the calls: length (4) and a record, or FFFFFFFF to close
+and what stands behind the line `own` in crates/card_cases/stdout and crates/feed_cases/stdout.
+
+A case is a name, how its file is built, and the line that document 01 gives it. The lines are written here by hand: nothing in this script
+computes an answer, and no program under test was asked for one. Where a program prints another line, document 01 decides which is right.
+
+A line is `A date movement records batches sales gross discount net` or `R number record column`; a fed case has one for each call, `-` for none.
+"""
+import pathlib
+import sys
+
+CRATES = pathlib.Path(__file__).resolve().parent.parent / "crates"
+
+# ---- How a file is built -------------------------------------------------------------------------------------------------------------------
+
+A0 = (b"A0" b"001.7d" b"20231115" b"083000" b"000042" + b"REDE DE POSTOS".ljust(30) + b"0101" b"000777" b"N" b"000001")
+L0 = b"L0" b"20231115" b"RE" b"000002"
+# A cash sale of 10000 = 250 + 9750: instalment 00 of 00, and zero in 111, 123, 134 and 145.
+CV = (b"CV" + b"POSTO 7".ljust(15) + b"000000012345" b"20231114" b"235959" b"1" b"20231215" b"D" b"1"
+      b"00000010000" b"00000000250" b"00000009750" b"0004111111111111111" b"00" b"00" b"000000000000"
+      b"00000000000" b"00000000000" b"00000000000" b"422" b"000123" + b"45678-9".ljust(11) + b"000000998877" b"001" b"010" b"000003")
+L9 = b"L9" b"000001" b"00000000010000" b"000004"
+A9 = b"A9" b"000005" b"000005"
+assert [len(r) for r in (A0, L0, CV, L9, A9)] == [75, 18, 199, 28, 14]
+
+CRLF = b"\r\n"
+CLOSE = None
+
+
+def put(record, position, text):
+    """The record with this text from this position on; positions count from 1."""
+    assert position - 1 + len(text) <= len(record)
+    return record[:position - 1] + text + record[position - 1 + len(text):]
+
+
+def numbered(record, number):
+    """The record with this NSEQ, which is the last six bytes of every kind."""
+    return put(record, len(record) - 5, b"%06d" % number)
+
+
+def whole(*records):
+    return b"".join(record + CRLF for record in records)
+
+
+def sale(cv):
+    """The file of five records with this CV."""
+    return whole(A0, L0, cv, L9, A9)
+
+
+def head(a0):
+    return whole(a0, L0, CV, L9, A9)
+
+
+def batch_head(l0):
+    return whole(A0, l0, CV, L9, A9)
+
+
+def batch_end(l9):
+    return whole(A0, L0, CV, l9, A9)
+
+
+def end(a9):
+    return whole(A0, L0, CV, L9, a9)
+
+
+FIVE = whole(A0, L0, CV, L9, A9)
+ACCEPTED = "A 20231115 000042 5 1 1 10000 250 9750"
+
+CARD, FEED = [], []
+
+
+def card(name, file, line, edition=2):
+    CARD.append((name, edition, file, line))
+
+
+def feed(name, calls, *answers, edition=2):
+    assert len(calls) == len(answers), name
+    FEED.append((name, edition, calls, ";".join(answers)))
+
+
+# ---- Whole files: the examples of document 01 ----------------------------------------------------------------------------------------------
+
+card("an empty file", b"", "R 12 1 0")
+card("an empty file, edition 1", b"", "R 12 1 0", edition=1)
+card("five records", FIVE, "A 20231115 000042 5 1 1 10000 250 9750")
+card("five records, edition 1", FIVE, "A 20231115 000042 5 1 1 10000 250 9750", edition=1)
+card("CV numbered 000004", sale(put(CV, 194, b"000004")), "R 9 3 194")
+card("capture 7 under edition 1", sale(put(CV, 54, b"7")), "R 8 3 54", edition=1)
+card("capture 7 under edition 2", sale(put(CV, 54, b"7")), ACCEPTED)
+card("net 9751", sale(put(CV, 77, b"00000009751")), "R 10 3 77")
+card("20240229 is a date", head(put(A0, 9, b"20240229")), "A 20240229 000042 5 1 1 10000 250 9750")
+card("20230229 is none", head(put(A0, 9, b"20230229")), "R 8 1 9")
+card("19991231 is none", head(put(A0, 9, b"19991231")), "R 8 1 9")
+card("20991231 is a date", head(put(A0, 9, b"20991231")), "A 20991231 000042 5 1 1 10000 250 9750")
+
+# ---- Editions: 1 comes before everything ----------------------------------------------------------------------------------------------------
+
+for edition in (0, 3, 7, 255):
+    card(f"edition {edition}", FIVE, "R 1 0 0", edition)
+card("edition 0, an empty file", b"", "R 1 0 0", edition=0)
+card("edition 3, no line end", b"A0", "R 1 0 0", edition=3)
+card("edition 0, an unknown kind", whole(b"XX"), "R 1 0 0", edition=0)
+
+# ---- The traps of document 01's last section ------------------------------------------------------------------------------------------------
+
+card("stars in a card", sale(put(CV, 88, b"000123456****123456")), ACCEPTED)
+card("a card of nineteen stars", sale(put(CV, 88, b"*******************")), ACCEPTED)
+card("a card of nineteen digits", sale(put(CV, 88, b"1234567890123456789")), ACCEPTED)
+card("a padded card of twelve", sale(put(CV, 88, b"0000000123456789012")), ACCEPTED)
+card("a card of nineteen zeros", sale(put(CV, 88, b"0000000000000000000")), ACCEPTED)
+card("a card with a wrong check digit", sale(put(CV, 88, b"0004111111111111112")), ACCEPTED)
+card("a card with a blank", sale(put(CV, 88, b"0004111 11111111111")), "R 7 3 88")
+card("a card with a letter at its end", sale(put(CV, 106, b"x")), "R 7 3 88")
+card("001.7d chooses no edition: capture 7 under edition 1", whole(A0, L0, put(CV, 54, b"7"), L9, A9), "R 8 3 54", edition=1)
+
+THIRD = put(CV, 55, b"00000030000" b"00000000750" b"00000029250")  # a sale of 30000 ..
+FIRST_OF_3 = put(THIRD, 107, b"01" b"03" b"000000000071" b"00000010002" b"00000000250" b"00000009752")  # .. in three instalments
+SECOND_OF_3 = numbered(put(THIRD, 107, b"02" b"03" b"000000000072" b"00000009999" b"00000000250" b"00000009749"), 4)
+THIRD_OF_3 = numbered(put(THIRD, 107, b"03" b"03" b"000000000073" b"00000009999" b"00000000250" b"00000009749"), 5)
+L9_OF_3 = b"L9" b"000003" b"00000000030000" b"000006"
+A9_OF_7 = b"A9" b"000007" b"000007"
+card("the instalments' amounts are added, not the sale's", whole(A0, L0, FIRST_OF_3, SECOND_OF_3, THIRD_OF_3, L9_OF_3, A9_OF_7),
+     "A 20231115 000042 7 1 3 30000 750 29250")
+card("L9 with the sale's amount once per instalment",
+     whole(A0, L0, FIRST_OF_3, SECOND_OF_3, THIRD_OF_3, put(L9_OF_3, 9, b"00000000090000"), A9_OF_7), "R 11 6 9")
+ONE_OF_1 = put(CV, 107, b"01" b"01" b"000000000071" b"00000004000" b"00000000100" b"00000003900")
+card("1 of 1 is an instalment", whole(A0, L0, ONE_OF_1, put(L9, 9, b"00000000004000"), A9), "A 20231115 000042 5 1 1 4000 100 3900")
+card("1 of 1, and L9 with the sale's amount", whole(A0, L0, ONE_OF_1, L9, A9), "R 11 4 9")
+card("an instalment of nothing", whole(A0, L0, put(CV, 107, b"99" b"99"), put(L9, 9, b"00000000000000"), A9), "A 20231115 000042 5 1 1 0 0 0")
+
+# ---- Batches and sales -----------------------------------------------------------------------------------------------------------------------
+
+card("no batch", whole(A0, b"A9" b"000002" b"000002"), "A 20231115 000042 2 0 0 0 0 0")
+card("a batch of no sale", whole(A0, L0, b"L9" b"000000" b"00000000000000" b"000003", b"A9" b"000004" b"000004"), "A 20231115 000042 4 1 0 0 0 0")
+L0_5, L9_6 = numbered(L0, 5), b"L9" b"000000" b"00000000000000" b"000006"
+card("two batches, the second of no sale", whole(A0, L0, CV, L9, L0_5, L9_6, A9_OF_7), "A 20231115 000042 7 2 1 10000 250 9750")
+card("L9 counts the sales of its own batch", whole(A0, L0, CV, L9, L0_5, put(L9_6, 3, b"000001"), A9_OF_7), "R 11 6 3")
+card("L9 sums the sales of its own batch", whole(A0, L0, CV, L9, L0_5, put(L9_6, 9, b"00000000010000"), A9_OF_7), "R 11 6 9")
+card("L9 sums gross, not net", batch_end(put(L9, 9, b"00000000009750")), "R 11 4 9")
+card("A9 counts itself", end(put(A9, 3, b"000004")), "R 11 5 3")
+for launch_type in (b"0", b"1", b"2"):
+    card("launch type %s counts and sums" % launch_type.decode(), sale(put(CV, 44, launch_type)), ACCEPTED)
+TOP = put(CV, 55, b"99999999999" b"00000000000" b"99999999999")
+card("the largest amount", whole(A0, L0, TOP, put(L9, 9, b"00099999999999"), A9), "A 20231115 000042 5 1 1 99999999999 0 99999999999")
+# 1001 sales of 99999999999 sum to 100099999998999, fifteen digits.
+card("a sum of fifteen digits equals no field: its last fourteen",
+     whole(A0, L0, *[numbered(TOP, 3 + i) for i in range(1001)], b"L9" b"001001" b"00099999998999" b"001004", b"A9" b"001005" b"001005"),
+     "R 11 1004 9")
+
+# ---- Every refusal that a card file can get, and each pair of neighbours in 01's order --------------------------------------------------------
+
+# 13, 12, 3
+card("13: one byte after the end, before 3", FIVE + b"x", "R 13 6 0")
+card("13: 1A at the end", FIVE + b"\x1a", "R 13 6 0")
+card("13: an LF after the end, before 3", FIVE + b"\n", "R 13 6 0")
+card("13: an empty line after the end, before 4", FIVE + CRLF, "R 13 6 0")
+card("13: an unknown kind after the end, before 4", FIVE + whole(b"XX"), "R 13 6 0")
+card("13: a second file", FIVE + FIVE, "R 13 6 0")
+card("13: a second A9", FIVE + whole(A9), "R 13 6 0")
+card("12: behind A0", whole(A0), "R 12 2 0")
+card("12: behind L0", whole(A0, L0), "R 12 3 0")
+card("12: behind CV", whole(A0, L0, CV), "R 12 4 0")
+card("12: behind L9", whole(A0, L0, CV, L9), "R 12 5 0")
+card("3: no LF in the rest", whole(A0, L0, CV, L9) + A9, "R 3 5 0")
+card("3: a CR and no LF", whole(A0, L0, CV, L9) + A9 + b"\r", "R 3 5 0")
+card("3: an LF with no CR", whole(A0, L0, CV, L9) + A9 + b"\n", "R 3 5 0")
+card("3: 1A where A9 should stand", whole(A0, L0, CV, L9) + b"\x1a", "R 3 5 0")
+card("3: a lone LF", b"\n", "R 3 1 0")
+card("3: a lone CR", b"\r", "R 3 1 0")
+card("3: LF CR", A0 + b"\n\r" + whole(L0, CV, L9, A9), "R 3 1 0")
+card("3: an LF right behind A0's CR LF", whole(A0) + b"\n" + whole(L0, CV, L9, A9), "R 3 2 0")
+card("3 before 4: an unknown kind with no LF", b"XX", "R 3 1 0")
+card("3 before 4: an unknown kind with a lone LF", b"XX\n", "R 3 1 0")
+card("3 before 5: CV first, with no line end", CV, "R 3 1 0")
+card("3 before 6: a short A0 with no line end", b"A0", "R 3 1 0")
+
+# 4, 5, 6
+for kind in (b"CP", b"PF", b"AJ", b"CC"):
+    card("4: %s is not read here" % kind.decode(), sale(put(CV, 1, kind)), "R 4 3 1")
+card("4: CP behind A0, before 5", whole(A0, numbered(put(CV, 1, b"CP"), 2)), "R 4 2 1")
+card("4: a lower-case kind", sale(put(CV, 1, b"cv")), "R 4 3 1")
+card("4: A1", head(put(A0, 1, b"A1")), "R 4 1 1")
+card("4: an empty record", whole(b""), "R 4 1 1")
+card("4: an empty record in a batch", whole(A0, L0, b"", L9, A9), "R 4 3 1")
+card("4: one byte", whole(b"A"), "R 4 1 1")
+card("4: a lone CR as a record", whole(b"\r"), "R 4 1 1")
+card("4 before 5 and 6: an unknown kind of no width", whole(b"XX"), "R 4 1 1")
+card("5: L0 first", whole(numbered(L0, 1)), "R 5 1 0")
+card("5: CV first", whole(numbered(CV, 1)), "R 5 1 0")
+card("5: L9 first", whole(numbered(L9, 1)), "R 5 1 0")
+card("5: A9 first", whole(b"A9" b"000001" b"000001"), "R 5 1 0")
+card("5: A0 behind A0", whole(A0, numbered(A0, 2)), "R 5 2 0")
+card("5: CV outside a batch", whole(A0, numbered(CV, 2)), "R 5 2 0")
+card("5: L9 outside a batch", whole(A0, numbered(L9, 2)), "R 5 2 0")
+card("5: L0 in a batch", whole(A0, L0, numbered(L0, 3)), "R 5 3 0")
+card("5: A9 in a batch", whole(A0, L0, b"A9" b"000003" b"000003"), "R 5 3 0")
+card("5: A0 in a batch", whole(A0, L0, CV, numbered(A0, 4)), "R 5 4 0")
+card("5: CV behind L9", whole(A0, L0, CV, L9, numbered(CV, 5)), "R 5 5 0")
+card("5 before 6: a short CV first", whole(b"CV"), "R 5 1 0")
+card("5 before 6: a long L0 in a batch", whole(A0, L0, numbered(L0, 3) + b"0"), "R 5 3 0")
+card("6: A0 of two bytes", whole(b"A0"), "R 6 1 0")
+card("6: A0 one short", head(A0[:74]), "R 6 1 0")
+card("6: A0 one wide", head(A0 + b"0"), "R 6 1 0")
+card("6: L0 one short", batch_head(L0[:17]), "R 6 2 0")
+card("6: L0 one wide", batch_head(L0 + b"0"), "R 6 2 0")
+card("6: CV one short", sale(CV[:198]), "R 6 3 0")
+card("6: CV one wide", sale(CV + b"0"), "R 6 3 0")
+card("6: L9 one short", batch_end(L9[:27]), "R 6 4 0")
+card("6: L9 one wide", batch_end(L9 + b"0"), "R 6 4 0")
+card("6: A9 one short", end(A9[:13]), "R 6 5 0")
+card("6: A9 one wide", end(A9 + b"0"), "R 6 5 0")
+card("6: CR CR LF is one byte wider", whole(A0 + b"\r", L0, CV, L9, A9), "R 6 1 0")
+card("6: CR LF in A0's name cuts it short", head(put(A0, 40, CRLF)), "R 6 1 0")
+card("3: an LF in A0's name", head(put(A0, 40, b"\n")), "R 3 1 0")
+card("3: an LF in a CV's store", sale(put(CV, 10, b"\n")), "R 3 3 0")
+card("6 before 7: a short CV with a letter in its NSU", sale(put(CV, 18, b"x")[:198]), "R 6 3 0")
+card("6 before 9: a wide A9 of another number", end(numbered(A9, 6) + b"0"), "R 6 5 0")
+
+# 7 and 8 in A0, by position
+card("8: version 001.7D", head(put(A0, 3, b"001.7D")), "R 8 1 3")
+card("8, not 7: a byte 0 in the version", head(put(A0, 8, b"\x00")), "R 8 1 3")
+card("7: a letter in A0's date", head(put(A0, 16, b"x")), "R 7 1 9")
+card("7 before 8: a letter in a day that is none", head(put(A0, 9, b"2023139x")), "R 7 1 9")
+for day in (b"20231301", b"20230001", b"20230431", b"20231100", b"20231132", b"21000101", b"00000000", b"99999999"):
+    card("8: %s is no day of A0" % day.decode(), head(put(A0, 9, day)), "R 8 1 9")
+card("the first day", head(put(A0, 9, b"20000101")), "A 20000101 000042 5 1 1 10000 250 9750")
+card("29 February 2000", head(put(A0, 9, b"20000229")), "A 20000229 000042 5 1 1 10000 250 9750")
+card("7: a letter in A0's time", head(put(A0, 22, b"x")), "R 7 1 17")
+card("7 before 8: a letter in a time that is none", head(put(A0, 17, b"99999x")), "R 7 1 17")
+for time in (b"240000", b"236000", b"235960"):
+    card("8: %s is no time" % time.decode(), head(put(A0, 17, time)), "R 8 1 17")
+card("the last second", head(put(A0, 17, b"235959")), ACCEPTED)
+card("7: a blank in the movement", head(put(A0, 23, b" ")), "R 7 1 23")
+card("movement 999999", head(put(A0, 23, b"999999")), "A 20231115 999999 5 1 1 10000 250 9750")
+card("movement 000000", head(put(A0, 23, b"000000")), "A 20231115 000000 5 1 1 10000 250 9750")
+card("7: byte 31 in the name", head(put(A0, 29, b"\x1f")), "R 7 1 29")
+card("7: byte 127 in the name", head(put(A0, 58, b"\x7f")), "R 7 1 29")
+card("7: a lone CR in the name", head(put(A0, 40, b"\r")), "R 7 1 29")
+card("bytes 32 and 126 in the name", head(put(A0, 29, b" ~")), ACCEPTED)
+card("7: a letter in the sender", head(put(A0, 62, b"x")), "R 7 1 59")
+card("7: a letter in the receiver", head(put(A0, 63, b"x")), "R 7 1 63")
+card("processing R", head(put(A0, 69, b"R")), ACCEPTED)
+card("8: processing X", head(put(A0, 69, b"X")), "R 8 1 69")
+card("8, not 7: byte 255 as the processing", head(put(A0, 69, b"\xff")), "R 8 1 69")
+card("7: a letter in A0's NSEQ", head(put(A0, 75, b"x")), "R 7 1 70")
+card("9: A0 numbered 000002", head(numbered(A0, 2)), "R 9 1 70")
+card("version before date", head(put(put(A0, 9, b"x"), 3, b"x")), "R 8 1 3")
+card("date's 8 before time's 7", head(put(put(A0, 9, b"20230229"), 17, b"x")), "R 8 1 9")
+card("processing's 8 before 9", head(put(numbered(A0, 2), 69, b"X")), "R 8 1 69")
+
+# 7 and 8 in L0
+card("7: a letter in L0's date", batch_head(put(L0, 3, b"x")), "R 7 2 3")
+card("8: 20230229 in L0", batch_head(put(L0, 3, b"20230229")), "R 8 2 3")
+for currency in (b"RE", b"DO", b"PE", b"  "):
+    card("currency '%s'" % currency.decode(), batch_head(put(L0, 11, currency)), ACCEPTED)
+card("8: currency US", batch_head(put(L0, 11, b"US")), "R 8 2 11")
+card("8: currency RO, of two that are allowed", batch_head(put(L0, 11, b"RO")), "R 8 2 11")
+card("8, not 7: byte 255 in the currency", batch_head(put(L0, 12, b"\xff")), "R 8 2 11")
+card("7: a letter in L0's NSEQ", batch_head(put(L0, 13, b"x")), "R 7 2 13")
+card("9: L0 numbered 000003", batch_head(numbered(L0, 3)), "R 9 2 13")
+
+# 7 and 8 in CV, by position: a byte at this place of the record
+card("7: byte 31 in the store", sale(put(CV, 3, b"\x1f")), "R 7 3 3")
+card("7: byte 127 at the store's end", sale(put(CV, 17, b"\x7f")), "R 7 3 3")
+card("7: NSU, first", sale(put(CV, 18, b"x")), "R 7 3 18")
+card("7: NSU, last", sale(put(CV, 29, b" ")), "R 7 3 18")
+card("7: date, first", sale(put(CV, 30, b"x")), "R 7 3 30")
+card("7: date, last", sale(put(CV, 37, b"x")), "R 7 3 30")
+card("8: date", sale(put(CV, 30, b"20230229")), "R 8 3 30")
+card("7 before 8: date", sale(put(CV, 30, b"9999999x")), "R 7 3 30")
+card("7: time, first", sale(put(CV, 38, b"x")), "R 7 3 38")
+card("7: time, last", sale(put(CV, 43, b"x")), "R 7 3 38")
+card("8: time", sale(put(CV, 38, b"240000")), "R 8 3 38")
+card("8: launch type 3", sale(put(CV, 44, b"3")), "R 8 3 44")
+card("8, not 7: launch type x", sale(put(CV, 44, b"x")), "R 8 3 44")
+card("7: launch date, first", sale(put(CV, 45, b"x")), "R 7 3 45")
+card("7: launch date, last", sale(put(CV, 52, b"x")), "R 7 3 45")
+card("8: launch date", sale(put(CV, 45, b"21000101")), "R 8 3 45")
+for product in (b"C", b"D", b"V"):
+    card("product %s" % product.decode(), sale(put(CV, 53, product)), ACCEPTED)
+card("8: product X", sale(put(CV, 53, b"X")), "R 8 3 53")
+card("8, not 7: byte 0 as the product", sale(put(CV, 53, b"\x00")), "R 8 3 53")
+for capture in (b"1", b"6", b"8", b"9"):
+    card("capture %s under edition 1" % capture.decode(), sale(put(CV, 54, capture)), ACCEPTED, edition=1)
+card("8: capture 0", sale(put(CV, 54, b"0")), "R 8 3 54")
+card("8, not 7: capture x", sale(put(CV, 54, b"x")), "R 8 3 54")
+card("7: gross, first", sale(put(CV, 55, b"x")), "R 7 3 55")
+card("7: gross, last", sale(put(CV, 65, b"-")), "R 7 3 55")
+card("7: discount, first", sale(put(CV, 66, b"-")), "R 7 3 66")
+card("7: discount, last", sale(put(CV, 76, b"x")), "R 7 3 66")
+card("7: net, first", sale(put(CV, 77, b"x")), "R 7 3 77")
+card("7: net, last", sale(put(CV, 87, b"x")), "R 7 3 77")
+card("7: card, first", sale(put(CV, 88, b" ")), "R 7 3 88")
+card("7: instalment", sale(put(CV, 108, b"x")), "R 7 3 107")
+card("7: instalments", sale(put(CV, 109, b" ")), "R 7 3 109")
+card("7: instalment NSU, first", sale(put(CV, 111, b"x")), "R 7 3 111")
+card("7: instalment NSU, last", sale(put(CV, 122, b"x")), "R 7 3 111")
+card("7: instalment gross, first", sale(put(CV, 123, b"x")), "R 7 3 123")
+card("7: instalment gross, last", sale(put(CV, 133, b"x")), "R 7 3 123")
+card("7: instalment discount, first", sale(put(CV, 134, b"x")), "R 7 3 134")
+card("7: instalment discount, last", sale(put(CV, 144, b"x")), "R 7 3 134")
+card("7: instalment net, first", sale(put(CV, 145, b"x")), "R 7 3 145")
+card("7: instalment net, last", sale(put(CV, 155, b"x")), "R 7 3 145")
+card("7: bank, first", sale(put(CV, 156, b"x")), "R 7 3 156")
+card("7: bank, last", sale(put(CV, 158, b"x")), "R 7 3 156")
+card("7: branch, first", sale(put(CV, 159, b"x")), "R 7 3 159")
+card("7: branch, last", sale(put(CV, 164, b"x")), "R 7 3 159")
+card("7: account, first", sale(put(CV, 165, b"\x80")), "R 7 3 165")
+card("7: account, last", sale(put(CV, 175, b"\t")), "R 7 3 165")
+card("7: authorisation, first", sale(put(CV, 176, b"x")), "R 7 3 176")
+card("7: authorisation, last", sale(put(CV, 187, b"x")), "R 7 3 176")
+card("7: brand, first", sale(put(CV, 188, b"\x1f")), "R 7 3 188")
+card("7: brand, last", sale(put(CV, 190, b"\x7f")), "R 7 3 188")
+card("7: product code, first", sale(put(CV, 191, b"\xe9")), "R 7 3 191")
+card("7: product code, last", sale(put(CV, 193, b"\xff")), "R 7 3 191")
+card("7: NSEQ, first", sale(put(CV, 194, b"x")), "R 7 3 194")
+card("7: NSEQ, last", sale(put(CV, 199, b"x")), "R 7 3 194")
+card("AN takes letters, signs, 32 and 126", sale(put(put(CV, 165, b" ~-x."), 188, b"aZ*")), ACCEPTED)
+
+# An earlier field before a later one, and the fields before 9
+card("NSU's 7 before date's 8", sale(put(put(CV, 18, b"x"), 30, b"20230229")), "R 7 3 18")
+card("date's 8 before time's 7", sale(put(put(CV, 30, b"20230229"), 38, b"x")), "R 8 3 30")
+card("launch type's 8 before launch date's 7", sale(put(CV, 44, b"xx")), "R 8 3 44")
+card("product before capture", sale(put(CV, 53, b"xx")), "R 8 3 53")
+card("capture's 8 before gross's 7", sale(put(CV, 54, b"xx")), "R 8 3 54")
+card("card before instalment", sale(put(CV, 106, b"xx")), "R 7 3 88")
+card("NSEQ's 7, the last field's, before 8 at 107", sale(put(put(CV, 107, b"0201"), 194, b"x")), "R 7 3 194")
+card("product code's 7 before 9", sale(put(CV, 193, b"\x7f" b"000004")), "R 7 3 191")
+card("capture's 8 before 9", sale(put(put(CV, 54, b"0"), 194, b"000004")), "R 8 3 54")
+
+# The joined rules: 9, 8 at 107, 8 at 111 to 145, 10 at 77, 10 at 145
+card("9 before 8 at 107", sale(put(put(CV, 107, b"0201"), 194, b"000004")), "R 9 3 194")
+card("9: numbered 000000", sale(put(CV, 194, b"000000")), "R 9 3 194")
+card("9: numbered as the record before", sale(put(CV, 194, b"000002")), "R 9 3 194")
+card("8 at 107: 2 of 1", sale(put(CV, 107, b"0201")), "R 8 3 107")
+card("8 at 107: 0 of 3", sale(put(CV, 107, b"0003")), "R 8 3 107")
+card("8 at 107: 1 of 0", sale(put(CV, 107, b"0100")), "R 8 3 107")
+WITH_ALL = b"000000000001" b"00000000001" b"00000000001" b"00000000001"  # 111, 123, 134 and 145; 1 is not 1 + 1
+card("107 before 111: 0 of 3 and none of the four zero", sale(put(CV, 107, b"0003" + WITH_ALL)), "R 8 3 107")
+card("107 before 10", sale(put(put(CV, 107, b"0201"), 77, b"00000009751")), "R 8 3 107")
+card("111 first of the four", sale(put(CV, 111, WITH_ALL)), "R 8 3 111")
+card("123 before 134 and 145", sale(put(CV, 123, WITH_ALL[12:])), "R 8 3 123")
+card("134 before 145", sale(put(CV, 134, WITH_ALL[23:])), "R 8 3 134")
+card("145 alone", sale(put(CV, 145, WITH_ALL[34:])), "R 8 3 145")
+card("111 alone", sale(put(CV, 122, b"1")), "R 8 3 111")
+card("123 alone", sale(put(CV, 133, b"1")), "R 8 3 123")
+card("134 alone", sale(put(CV, 144, b"1")), "R 8 3 134")
+card("8 at 111 before 10 at 77", sale(put(put(CV, 122, b"1"), 87, b"1")), "R 8 3 111")
+card("8 at 145 before 10 at 77", sale(put(put(CV, 155, b"1"), 87, b"1")), "R 8 3 145")
+card("10 at 77 before 10 at 145", sale(put(put(CV, 107, b"0102" + WITH_ALL), 87, b"1")), "R 10 3 77")
+card("10 at 145", sale(put(CV, 107, b"0102" + WITH_ALL)), "R 10 3 145")
+card("10 at 77, whatever the instalment's amounts", sale(put(ONE_OF_1, 87, b"1")), "R 10 3 77")
+card("10: net above gross", sale(put(CV, 55, b"00000000000" b"00000000001" b"99999999999")), "R 10 3 77")
+card("10, the last rule, before the next record's faults", whole(A0, L0, put(CV, 87, b"1"), b"L9"), "R 10 3 77")
+
+# The trailers: 7 over all fields by position, then 9, then 11 by position
+card("L9: 7 in its count", batch_end(put(L9, 8, b"x")), "R 7 4 3")
+card("L9: 7 in its sum", batch_end(put(L9, 22, b"x")), "R 7 4 9")
+card("L9: 7 in its NSEQ", batch_end(put(L9, 28, b"x")), "R 7 4 23")
+card("L9: 7 by position", batch_end(put(put(L9, 9, b"x"), 3, b"x")), "R 7 4 3")
+card("L9: NSEQ's 7 before 11", batch_end(put(put(L9, 3, b"000002"), 23, b"x")), "R 7 4 23")
+card("L9: 9 before 11", batch_end(put(put(L9, 3, b"000002"), 23, b"000005")), "R 9 4 23")
+card("L9: 11 by position", batch_end(put(L9, 3, b"000002" b"00000000010001")), "R 11 4 3")
+card("L9: 11 in its count", batch_end(put(L9, 3, b"000000")), "R 11 4 3")
+card("L9: 11 in its sum", batch_end(put(L9, 9, b"00000000010001")), "R 11 4 9")
+card("A9: 7 in its count", end(put(A9, 3, b"x")), "R 7 5 3")
+card("A9: 7 in its NSEQ", end(put(A9, 14, b"x")), "R 7 5 9")
+card("A9: NSEQ's 7 before 11", end(put(put(A9, 3, b"000006"), 9, b"x")), "R 7 5 9")
+card("A9: 9 before 11", end(b"A9" b"000006" b"000006"), "R 9 5 9")
+card("A9: 11", end(put(A9, 3, b"000006")), "R 11 5 3")
+card("A9: 11 before 13", end(put(A9, 3, b"000006")) + b"x", "R 11 5 3")
+
+# ---- Record by record --------------------------------------------------------------------------------------------------------------------------
+
+R = [A0, L0, CV, L9, A9]
+
+feed("no call", [])
+feed("no call, edition 3", [], edition=3)
+feed("a close before any record", [CLOSE], "R 12 1 0")
+feed("a close before any record, twice, and a record", [CLOSE, CLOSE, A0], "R 12 1 0", "R 12 1 0", "R 12 1 0")
+feed("five records, not closed", R, "-", "-", "-", "-", "-")
+feed("five records, closed", R + [CLOSE], "-", "-", "-", "-", "-", ACCEPTED)
+feed("five records, edition 1", R + [CLOSE], "-", "-", "-", "-", "-", ACCEPTED, edition=1)
+feed("closed twice: the same answer", R + [CLOSE, CLOSE, CLOSE], "-", "-", "-", "-", "-", ACCEPTED, ACCEPTED, ACCEPTED)
+feed("a record after an accepted close is 13, for good", R + [CLOSE, A0, CLOSE, A9, b""],
+     "-", "-", "-", "-", "-", ACCEPTED, "R 13 6 0", "R 13 6 0", "R 13 6 0", "R 13 6 0")
+feed("a record after two accepted closes", R + [CLOSE, CLOSE, L0, CLOSE], "-", "-", "-", "-", "-", ACCEPTED, ACCEPTED, "R 13 6 0", "R 13 6 0")
+feed("a record after A9 is 13, for good", R + [A9, CLOSE, A0], "-", "-", "-", "-", "-", "R 13 6 0", "R 13 6 0", "R 13 6 0")
+feed("13 before 4: an empty record after A9", R + [b"", CLOSE], "-", "-", "-", "-", "-", "R 13 6 0", "R 13 6 0")
+feed("13: a record with an LF after A9", R + [b"XX\n"], "-", "-", "-", "-", "-", "R 13 6 0")
+feed("no batch", [A0, b"A9" b"000002" b"000002", CLOSE], "-", "-", "A 20231115 000042 2 0 0 0 0 0")
+feed("closed behind A0, and L0 after it", [A0, CLOSE, L0, CLOSE], "-", "R 12 2 0", "R 12 2 0", "R 12 2 0")
+feed("closed behind L0", [A0, L0, CLOSE], "-", "-", "R 12 3 0")
+feed("closed behind CV", [A0, L0, CV, CLOSE], "-", "-", "-", "R 12 4 0")
+feed("closed behind L9", [A0, L0, CV, L9, CLOSE], "-", "-", "-", "-", "R 12 5 0")
+for edition in (0, 3, 255):
+    feed(f"edition {edition}", R + [CLOSE], *["R 1 0 0"] * 6, edition=edition)
+feed("edition 0, closed at once", [CLOSE, CLOSE], "R 1 0 0", "R 1 0 0", edition=0)
+feed("a refusal stays: A0 numbered 000002, then the right five", [numbered(A0, 2)] + R + [CLOSE], *["R 9 1 70"] * 7)
+feed("a refusal stays: another fault later", [A0, L0, put(CV, 54, b"0"), b"", b"XX", CLOSE], "-", "-", *["R 8 3 54"] * 4)
+feed("no answer looks ahead: A9 is wrong", R[:4] + [put(A9, 3, b"000004"), CLOSE], "-", "-", "-", "-", "R 11 5 3", "R 11 5 3")
+feed("CV numbered 000004", [A0, L0, put(CV, 194, b"000004"), CLOSE], "-", "-", "R 9 3 194", "R 9 3 194")
+feed("capture 7 under edition 1", [A0, L0, put(CV, 54, b"7")], "-", "-", "R 8 3 54", edition=1)
+feed("capture 7 under edition 2", [A0, L0, put(CV, 54, b"7")], "-", "-", "-")
+feed("10", [A0, L0, put(CV, 87, b"1"), L9], "-", "-", "R 10 3 77", "R 10 3 77")
+feed("an empty record", [b"", A0], "R 4 1 1", "R 4 1 1")
+feed("one byte", [b"C"], "R 4 1 1")
+for kind in (b"CP", b"PF", b"AJ", b"CC"):
+    feed("%s is not read here" % kind.decode(), [A0, L0, put(CV, 1, kind), CLOSE], "-", "-", "R 4 3 1", "R 4 3 1")
+feed("5 before 6: a short CV first", [b"CV"], "R 5 1 0")
+feed("6: A0 one short", [A0[:74]], "R 6 1 0")
+feed("an LF alone is an unknown kind, not 3", [b"\n"], "R 4 1 1")
+feed("a CR LF alone is an unknown kind", [CRLF], "R 4 1 1")
+feed("an LF inside A0's name is 7, not 3", [put(A0, 40, b"\n"), CLOSE], "R 7 1 29", "R 7 1 29")
+feed("a CR LF inside A0's name is 7, not 6", [put(A0, 40, CRLF)], "R 7 1 29")
+feed("an LF inside a CV's card", [A0, L0, put(CV, 100, b"\n")], "-", "-", "R 7 3 88")
+feed("an LF as the processing: a closed set gives 8", [put(A0, 69, b"\n")], "R 8 1 69")
+feed("an LF inside a CV at a wrong place", [A0, put(numbered(CV, 2), 10, b"\n")], "-", "R 5 2 0")
+feed("a CR at the end is one byte more", [A0 + b"\r"], "R 6 1 0")
+feed("a CR LF at the end is two bytes more", [A0 + CRLF], "R 6 1 0")
+feed("an LF at the end is one byte more", [A0, L0 + b"\n"], "-", "R 6 2 0")
+feed("two records with their line ends, as one", [whole(A0, L0)], "R 6 1 0")
+feed("a CR as the last byte of A0's NSEQ", [put(A0, 75, b"\r")], "R 7 1 70")
+feed("1A as a record", [A0, b"\x1a"], "-", "R 4 2 1")
+feed("two batches", R[:4] + [L0_5, L9_6, A9_OF_7, CLOSE], *["-"] * 7, "A 20231115 000042 7 2 1 10000 250 9750")
+feed("three instalments", [A0, L0, FIRST_OF_3, SECOND_OF_3, THIRD_OF_3, L9_OF_3, A9_OF_7, CLOSE], *["-"] * 7,
+     "A 20231115 000042 7 1 3 30000 750 29250")
+
+# ---- Writing them ------------------------------------------------------------------------------------------------------------------------------
+
+
+def number(n):
+    return n.to_bytes(4, "big")
+
+
+def call(record):
+    return b"\xff\xff\xff\xff" if record is CLOSE else number(len(record)) + record
+
+
+def write(crate, cases):
+    """The cases (edition, bytes, line) into the crate's own.cases, and their lines behind `own` in its stdout."""
+    data = b"".join(bytes([edition]) + number(len(content)) + content for edition, content, _ in cases)
+    (CRATES / crate / "data" / "own.cases").write_bytes(data)
+    stdout = CRATES / crate / "stdout"
+    lines = stdout.read_text().split("\n")
+    kept = lines[:lines.index("own") + 1]
+    stdout.write_text("\n".join(kept + [line for _, _, line in cases]) + "\n")
+    return len(kept)
+
+
+def show(crate, before, cases):
+    for i, (name, _, _, line) in enumerate(cases):
+        print(f"{crate}/stdout:{before + i + 1}: {name}: {line}")
+
+
+def main():
+    if sys.argv[1:] not in ([], ["--list"]):
+        sys.exit(__doc__)
+    before_card = write("card_cases", [(edition, file, line) for _, edition, file, line in CARD])
+    before_feed = write("feed_cases", [(edition, b"".join(map(call, calls)), line) for _, edition, calls, line in FEED])
+    if sys.argv[1:]:
+        show("card_cases", before_card, CARD)
+        show("feed_cases", before_feed, FEED)
+
+
+main()
