@@ -87,7 +87,7 @@ content-kept Card edition column p s k = both k refl
 content-kept (OneOf set) edition column p s k = both k refl
 
 -- the length of a part that lies in the record
-part-length : (first last : ℕ) (r : List ℕ) → last ≤ length r → length (positions first last r) ≡ last - (first - 1)
+pub part-length : (first last : ℕ) (r : List ℕ) → last ≤ length r → length (positions first last r) ≡ last - (first - 1)
 part-length first last r h = omega (arith, length-drop (first - 1) (take last r), length-take last r)
 
 -- each field of a table lies in a record of a width, and has the positions that its content asks for

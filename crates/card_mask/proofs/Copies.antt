@@ -83,9 +83,9 @@ module _ (file out₀ : List ℕ) (fits : length file ≤ length out₀) (copied
       let past : length p + 1 ≡ e + 1 = ap (λ (n : ℕ). n + 1) wide in
       let one : (e + 1) - e ≡ 1 = omega arith in
       let lf-there : take 1 (drop e out) ≡ lf ∷ [] =
-            ap (take 1) (further at e out w (i .0)) ∙
-            subst (λ (n : ℕ). take n (drop e out₀) ≡ take n (drop e file)) one (same-there e (e + 1) (omega arith) (omega arith)) ∙
-            ap (take 1) (at-lf at file e q) in
+      ap (take 1) (further at e out w (i .0)) ∙
+      subst (λ (n : ℕ). take n (drop e out₀) ≡ take n (drop e file)) one (same-there e (e + 1) (omega arith) (omega arith)) ∙
+      ap (take 1) (at-lf at file e q) in
       record {
         in-file = omega arith;
         same-length =

@@ -5,7 +5,6 @@ ghost use Prim.Native.Nat.{_≤_};
 ghost use lib.ListN.{length, take, drop};
 ghost use Rattle.card_mask.specs.Masked.{maskedPiece, maskedFile};
 ghost use Rattle.card_mask.specs.Mask.{maskAnswer, Masks};
-
 use card_record::card_part::CardPart;
 use card_run::answer::CardAnswer;
 use lines::Found;

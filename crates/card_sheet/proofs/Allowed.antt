@@ -1,0 +1,69 @@
+-- The sheet of an accepted file has numbers that are allowed: the file keeps 01's rules, and its numbers are the plain ones.
+use Prim.Native.Nat.{ℕ, _≤_, _^_}
+use mathlib.Core.Path.{_≡_, refl, sym, _∙_, ap}
+use mathlib.Core.Logic.{_⊎_, inl, inr}
+use mathlib.Core.List.{List}
+use mathlib.Core.Bool.{true}
+use native.Mathlib.Omega.{arith}
+use borrow.Author.Tests.{le-leb, lt-ltb, eq-eqb}
+use Rattle.text.proofs.Numbers.{value-below}
+use Rattle.text.specs.Part.{positions}
+use Rattle.calendar.specs.Day.{isDay}
+use Rattle.card_run.specs.declared.answer.Accepted.{Accepted as Numbers}
+use Rattle.card_run.specs.declared.answer.CardAnswer.the-variants.{Accepted}
+use Rattle.card_file.specs.CardFile.{checkOf}
+use Rattle.card_kept.specs.Fields.{numberAt}
+use Rattle.card_kept.specs.Kept.{Kept}
+use Rattle.card_kept.specs.Numbers.{Numbers as Plain}
+use Rattle.card_kept.proofs.FieldsKept.{part-length}
+use Rattle.card_kept.proofs.KeptMeansKept.{kept-means-kept, plain-numbers}
+use Rattle.day_sheet.specs.Sheet.{totalsAllowed, sheetAllowed}
+use Rattle.card_sheet.specs.SheetOf.{sheetFrom}
+use Rattle.card_sheet.proofs.Counts.{batches-below, sales-below}
+
+module _ {edition : ℕ} {bytes : List ℕ} (k : Kept edition bytes) where
+  known-low : 1 ≤ edition
+  known-low = by (k .known)
+    where
+      by : (edition ≡ 1) ⊎ (edition ≡ 2) → 1 ≤ edition
+      by (inl e) = omega (arith, e)
+      by (inr e) = omega (arith, e)
+
+  known-high : edition ≤ 2
+  known-high = by (k .known)
+    where
+      by : (edition ≡ 1) ⊎ (edition ≡ 2) → edition ≤ 2
+      by (inl e) = omega (arith, e)
+      by (inr e) = omega (arith, e)
+
+  date-right : isDay (numberAt 9 16 (k .file .a0)) ≡ true
+  date-right = k .keeps .a0 .fields .1 .0 .1
+
+  -- six digits write a number up to 999999
+  movement-below : numberAt 23 28 (k .file .a0) ≤ 999999
+  movement-below =
+      let wide = k .keeps .a0 .wide in
+      let six = part-length 23 28 (k .file .a0) (omega (arith, wide)) in
+      let below = value-below (positions 23 28 (k .file .a0)) (k .keeps .a0 .fields .1 .1 .1 .0) in
+      omega (arith, rw six at below)
+
+  allowed : (a : Numbers) → Plain (k .file) a → sheetAllowed (sheetFrom edition a) ≡ true
+  unfolding sheetAllowed totalsAllowed
+  allowed a p =
+      rw (
+        le-leb _ _ known-low,
+        le-leb _ _ known-high,
+        ap isDay (p .date) ∙ date-right,
+        le-leb (a .movement) 999999 (omega (arith, p .movement, movement-below)),
+        le-leb (a .batches) 999999 (omega (arith, p .batches, p .records, p .records-below, batches-below (k .file))),
+        le-leb (a .totals .sales) 999999 (omega (arith, p .sales, p .records, p .records-below, sales-below (k .file))),
+        lt-ltb _ _ (p .gross-below),
+        lt-ltb _ _ (p .discount-below),
+        lt-ltb _ _ (p .net-below),
+        eq-eqb _ _ (p .agree),
+      )
+
+pub accepted-allowed : (edition : ℕ) (bytes : List ℕ) (a : Numbers) → checkOf edition bytes ≡ Accepted a → sheetAllowed (sheetFrom edition a) ≡ true
+accepted-allowed edition bytes a e =
+    let kept = kept-means-kept edition bytes .0 (record { numbers = a; answer = e }) in
+    allowed kept a (plain-numbers edition bytes a e kept)
