@@ -5,3 +5,10 @@ pub mod AtItsPlace
 pub mod Outcomes
 pub mod Feeding
 pub mod FirstFault
+pub mod TwinLaws
+pub mod TwinRecords
+pub mod TwinFiles
+pub mod TwinMasks
+pub mod MaskedPlaces
+pub mod HiddenDigits
+pub mod HiddenDigitsExample

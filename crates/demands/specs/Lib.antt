@@ -1,3 +1,5 @@
 pub mod Examples
 pub mod Feeding
 pub mod FirstFault
+pub mod HiddenDigits
+pub mod HiddenDigitsExample

@@ -1,0 +1,50 @@
+-- There are twins that differ, by computation: starred at the hidden digits of both, the two files are the same.
+use Prim.Native.Nat.{ℕ}
+use mathlib.Core.Path.{_≡_, refl, ap}
+use mathlib.Core.Bool.{Bool, true, _&&_}
+use native.Mathlib.Omega.{arith}
+use lib.ListN.{getD}
+use Rattle.refusal.specs.Rules.{firstBroken}
+use Rattle.text.specs.Alphabet.{digit, allowed, holdsOnly}
+use Rattle.text.specs.Number.{valueFrom}
+use Rattle.text.specs.Literal.{sameBytes, hasByte, oneByteOf}
+use Rattle.calendar.specs.Month.{daysIn}
+use Rattle.calendar.specs.Day.{isDay}
+use Rattle.calendar.specs.Time.{isTime}
+use Rattle.calendar.specs.When.{whenRules}
+use Rattle.pan.specs.CardField.{wellFormed, leadingZeros}
+use Rattle.pan.specs.HiddenPlaces.{hiddenPlaces}
+use Rattle.pan.specs.Masked.{starWhere}
+use Rattle.pan.proofs.Stars.{equal-stars}
+use Rattle.lines.specs.Lines.{inFront, cut, joined, endsInCr, withoutLast}
+use Rattle.card_record.specs.CardPart.{cardPartIn}
+use Rattle.card_record.specs.Content.{inSet, contentRules}
+use Rattle.card_record.specs.Cv.{joinedRules}
+use Rattle.card_record.specs.Field.{tableRules, recordRules, plainNumber}
+use Rattle.card_record.specs.Kind.{kindNamed}
+use Rattle.card_record.specs.Reading.{numbersOf, judgedAs, readFound}
+use Rattle.card_run.specs.Answer.{answerAt}
+use Rattle.card_run.specs.Running.{joinedAt, runRules, behind, settled, tookAt, closedAt}
+use Rattle.card_file.specs.CardFile.{linesOf, endOf, checkOf}
+use Rattle.demands.specs.FirstFault.{isAccepted}
+use Rattle.demands.specs.HiddenDigits.{hiddenAt, hiddenInPieces, hiddenIn, TwinFiles}
+use Rattle.demands.specs.HiddenDigitsExample.{oneFile, otherFile, TwinsThatDiffer}
+
+-- the hidden digits of both
+picked : ℕ → Bool
+picked i = (hiddenIn oneFile i && digit (getD oneFile i 0)) && (hiddenIn otherFile i && digit (getD otherFile i 0))
+
+twins : TwinFiles oneFile otherFile
+unfolding picked allowed holdsOnly sameBytes wellFormed leadingZeros hiddenPlaces starWhere inFront cut joined endsInCr withoutLast cardPartIn hiddenAt hiddenInPieces
+twins = equal-stars picked oneFile otherFile .0 refl
+
+accepted : isAccepted (checkOf 2 oneFile) ≡ true
+unfolding firstBroken allowed holdsOnly valueFrom sameBytes hasByte oneByteOf daysIn isDay isTime whenRules wellFormed leadingZeros inFront cut joined endsInCr withoutLast inSet contentRules joinedRules tableRules recordRules plainNumber kindNamed numbersOf judgedAs readFound answerAt joinedAt runRules behind settled tookAt closedAt linesOf endOf
+accepted = refl
+
+differ : oneFile ≡ otherFile → ⊥
+unfolding joined
+differ e = let z = ap (λ s. getD s 193 0) e in omega arith
+
+pub twins-that-differ : TwinsThatDiffer
+twins-that-differ = record { accepted = accepted; twins = twins; differ = differ }
