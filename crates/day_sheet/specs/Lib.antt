@@ -2,3 +2,4 @@ pub mod Number
 pub mod Sheet
 pub mod Layout
 pub mod Reading
+pub mod Answer

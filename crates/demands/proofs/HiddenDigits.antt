@@ -17,6 +17,7 @@ use Rattle.card_run.specs.Running.{openOf, tookOf, fedOf, closedOf}
 use Rattle.card_run.specs.Answer.{answerOf}
 use Rattle.card_file.specs.CardFile.{unendedOf, lineOf, linesOf, endOf, checkOf}
 use Rattle.card_mask.specs.Mask.{nowhere, maskAnswer, maskedInto}
+use Rattle.card_sheet.specs.SheetOf.{sheetAnswer, sheetInto}
 use Rattle.demands.specs.Feeding.{fedAll, Call, called}
 use Rattle.demands.specs.HiddenDigits.{
   TwinRecords,
@@ -94,6 +95,12 @@ same-output GoingOn s t out w = refl
 same-output (Accepted a) s t out w = ap₂ (λ copy wide. copy ++ drop wide out) (same-masked s t w) (w .same-length)
 same-output (Refused x) s t out w = refl
 
+-- the answer of a file's day sheet
+same-sheet : (edition : ℕ) (s t : List ℕ) (room : ℕ) → TwinFiles s t → sheetAnswer edition s room ≡ sheetAnswer edition t room
+unfolding sheetAnswer
+same-sheet edition s t room w =
+    ap (λ answer. cond (leb 1 edition && leb edition 2) (cond (leb 52 room) answer (nowhere OutputTooShort)) (nowhere EditionUnknown)) (same-check edition s t w)
+
 -- THE THEOREM
 pub hidden-digits-reach-nothing : HiddenDigitsReachNothing
 hidden-digits-reach-nothing =
@@ -107,6 +114,11 @@ hidden-digits-reach-nothing =
           let answers = same-answer edition s t (length out) w in (
             m .answers ∙ answers ∙ sym (n .answers),
             m .leaves ∙ ap (λ answer. maskedInto answer s out) answers ∙ same-output (maskAnswer edition t (length out)) s t out w ∙ sym (n .leaves),
+          );
+      sheets = λ edition s t out w a b after-s after-t m n.
+          let answers = same-sheet edition s t (length out) w in (
+            m .answers ∙ answers ∙ sym (n .answers),
+            m .leaves ∙ ap (λ answer. sheetInto edition answer out) answers ∙ sym (n .leaves),
           );
     }
 

@@ -11,4 +11,6 @@ pub mod TwinFiles
 pub mod TwinMasks
 pub mod MaskedPlaces
 pub mod HiddenDigits
+pub mod LentBuffers
+pub mod RulesKept
 pub mod HiddenDigitsExample

@@ -19,6 +19,7 @@ use Rattle.card_run.specs.declared.answer.CardAnswer.{CardAnswer}
 use Rattle.card_file.specs.CardFile.{checkOf}
 use Rattle.card_mask.specs.Masked.{maskedFile}
 use Rattle.card_mask.specs.Mask.{Masks}
+use Rattle.card_sheet.specs.SheetOf.{SheetOf}
 use Rattle.demands.specs.Feeding.{fedAll, Call, feed, close, called}
 
 -- a place of a record, from 0, is hidden where it is a hidden place of the card that begins at k;
@@ -82,6 +83,9 @@ pub record HiddenDigitsReachNothing : Type 0 where
   -- the answer of masking, and every byte of the output
   pub masks : (edition : ℕ) (s t out : List ℕ) → TwinFiles s t → (answer-s answer-t : CardAnswer) (after-s after-t : List ℕ) →
       Masks edition s out answer-s after-s → Masks edition t out answer-t after-t → (answer-s ≡ answer-t) × (after-s ≡ after-t)
+  -- the answer of a file's day sheet, and every byte of the output
+  pub sheets : (edition : ℕ) (s t out : List ℕ) → TwinFiles s t → (answer-s answer-t : CardAnswer) (after-s after-t : List ℕ) →
+      SheetOf edition s out answer-s after-s → SheetOf edition t out answer-t after-t → (answer-s ≡ answer-t) × (after-s ≡ after-t)
 
 -- "The masked copy is the accepted file with a star at each such place": byte for byte, of every file
 pub record MaskedWhereHidden (file : List ℕ) : Type 0 where

@@ -1,0 +1,17 @@
+-- Demand 2, from the crates that prove its parts.
+use Rattle.card_kept.proofs.KeptMeansKept.{kept-means-kept, plain-numbers}
+use Rattle.day_sheet.proofs.RoundTrip as round
+use Rattle.card_sheet.proofs.Allowed.{accepted-allowed}
+use Rattle.demands.specs.RulesKept.{CardRulesKept, SheetThereAndBack}
+
+pub card-rules-kept : CardRulesKept
+card-rules-kept = record { exactly = kept-means-kept; numbers = plain-numbers }
+
+pub sheet-there-and-back : SheetThereAndBack
+sheet-there-and-back =
+    record {
+      reads-back = round.reads-back;
+      the-one-we-write = round.the-one-we-write;
+      different = round.different;
+      of-a-file = accepted-allowed;
+    }
