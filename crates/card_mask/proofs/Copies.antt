@@ -1,11 +1,10 @@
 -- A copy that is masked piece by piece from the front: what stands before a place is done, what stands behind it is still the copy.
-use Prim.Native.Nat.{ℕ, suc, _+_, _-_, _≤_, _<_}
+use Prim.Native.Nat.{ℕ, suc, _+_, _-_, _≤_}
 use mathlib.Core.Path.{_≡_, refl, sym, _∙_, ap, subst}
 use mathlib.Core.List.{List, [], _∷_, _++_, append-assoc}
 use native.Mathlib.Omega.{arith}
-use native.Mathlib.Numerals.{add-one}
-use lib.ListN.{length, take, drop, length-append, length-drop, length-take, take-append-drop, drop-of-length-le}
-use lib.Seq.{length-take-le, take-take, take-at, drop-at, take-append-le, drop-append-le, drop-append-add, take-append-add, drop-drop}
+use lib.ListN.{length, take, drop, length-append, length-drop, take-append-drop, drop-of-length-le}
+use lib.Seq.{length-take-le, take-take, drop-at, drop-append-le, drop-append-add, take-append-add, drop-drop}
 use Rattle.text.proofs.Parts.{drop-take}
 use Rattle.lines.specs.declared.Found.the-variants.{At, Nowhere}
 use Rattle.lines.specs.Lines.{lf, cut, rejoined, nextLf}

@@ -1,7 +1,6 @@
 -- A file has at least as many records as batches, and as sales: each batch gives its own records.
-use Prim.Native.Nat.{ℕ, _≤_}
-use mathlib.Core.Path.{_≡_, refl}
-use mathlib.Core.List.{List, [], _∷_, _++_}
+use Prim.Native.Nat.{_≤_}
+use mathlib.Core.List.{List, [], _∷_}
 use native.Mathlib.Omega.{arith}
 use lib.ListN.{length, length-append}
 use Rattle.card_kept.specs.Kept.{Batch, File, batchRecords, batchesRecords, recordsOf, batchesSales, salesOf}

@@ -21,11 +21,10 @@ use Rattle.totals.specs.Amounts.{agreeing}
 use Rattle.calendar.specs.Day.{isDay}
 use Rattle.calendar.proofs.Days.{day-range}
 use Rattle.day_sheet.specs.declared.sheet.Sheet.{Sheet}
-use Rattle.day_sheet.specs.declared.reader.SheetRead.{SheetRead}
 use Rattle.day_sheet.specs.declared.reader.SheetRead.the-variants.{Read, Refused}
 use Rattle.day_sheet.specs.Number.{inBase}
 use Rattle.day_sheet.specs.Sheet.{totalsAllowed, sheetAllowed}
-use Rattle.day_sheet.specs.Layout.{version1, numbersOf, sheetOf, inPlaces, fromPlaces, bytesOf}
+use Rattle.day_sheet.specs.Layout.{version1, numbersOf, inPlaces, fromPlaces, bytesOf}
 use Rattle.day_sheet.specs.Reading.{isMarked, numbersIn, sheetIn, dateAndMovement, numbersRight, readNumbers, readOf}
 use Rattle.day_sheet.proofs.Places.{date-and-movement}
 use Rattle.day_sheet.proofs.Values.{Right}

@@ -4,7 +4,7 @@ use mathlib.Core.Path.{_≡_, refl, sym, _∙_, ap, ap₂}
 use mathlib.Core.List.{List, [], _∷_, _++_}
 use native.Mathlib.Omega.{arith}
 use lib.ListN.{length, take, drop, length-drop}
-use lib.Seq.{length-take-le, take-at, drop-at, take-add, take-nil}
+use lib.Seq.{length-take-le, take-at, drop-at, take-add}
 use lib.Dec.{lit<}
 use Rattle.day_sheet.specs.declared.number.Form.{Form}
 use Rattle.day_sheet.specs.declared.number.Form.the-variants.{Bytes, Digits}

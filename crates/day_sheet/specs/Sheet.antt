@@ -1,6 +1,6 @@
 -- "Numbers are allowed when the edition is 1 or 2, date and digits are right, counts are at most 999999, totals below 10^17, and
 -- gross = discount + net."
-use Prim.Native.Nat.{ℕ, _^_}
+use Prim.Native.Nat.{_^_}
 use mathlib.Core.Bool.{Bool, _&&_}
 use lib.Dec.{leb, ltb}
 use Rattle.totals.specs.declared.amounts.Totals.{Totals}

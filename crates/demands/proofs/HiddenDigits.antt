@@ -36,6 +36,7 @@ use Rattle.demands.specs.HiddenDigits.{
 use Rattle.demands.proofs.TwinRecords.{same-reading}
 use Rattle.demands.proofs.TwinFiles as files
 use Rattle.demands.proofs.TwinMasks.{same-masked}
+use Rattle.demands.proofs.TwinFields.{same-refusal, same-field}
 use Rattle.demands.proofs.MaskedPlaces.{stars-where-hidden}
 
 -- one record fed, in every state
@@ -120,6 +121,7 @@ hidden-digits-reach-nothing =
             m .answers ∙ answers ∙ sym (n .answers),
             m .leaves ∙ ap (λ answer. sheetInto edition answer out) answers ∙ sym (n .leaves),
           );
+      field = λ r s w number. (same-refusal r s w number, same-field r s w number);
     }
 
 -- and the masked copy is the file with a star at each hidden place

@@ -10,15 +10,15 @@ use Rattle.refusal.specs.declared.Refusal.{Refusal}
 use Rattle.card_run.specs.declared.answer.CardAnswer.{CardAnswer}
 use Rattle.card_run.specs.declared.answer.CardAnswer.the-variants.{GoingOn, Accepted, Refused}
 use Rattle.card_run.specs.Answer.{rowOf}
-use Rattle.card_mask.specs.Mask.{maskedInto, Masks}
-use Rattle.card_sheet.specs.SheetOf.{sheetInto, SheetOf}
+use Rattle.card_mask.specs.Mask.{maskedInto}
+use Rattle.card_sheet.specs.SheetOf.{sheetInto}
 use Rattle.day_sheet.specs.declared.sheet.Sheet.{Sheet}
 use Rattle.day_sheet.specs.declared.writer.SheetWritten.{SheetWritten}
 use Rattle.day_sheet.specs.declared.writer.SheetWritten.the-variants.{Written, Refused as notWritten}
 use Rattle.day_sheet.specs.Sheet.{sheetAllowed}
 use Rattle.day_sheet.specs.Reading.{writeAnswer, writeResult, Writes}
 use Rattle.day_sheet.specs.Answer.{writtenRow}
-use Rattle.demands.specs.LentBuffers.{cardDone, sheetDone, Lent, masking, sheet-of-file, writing-sheet, AllZero, LeftAlone, RefusedLeavesAlone}
+use Rattle.demands.specs.LentBuffers.{cardDone, sheetDone, masking, sheet-of-file, writing-sheet, AllZero, LeftAlone, RefusedLeavesAlone}
 
 -- a card file's answer: the output that goes with a refusal is the one lent
 card-alone : (into : CardAnswer → List ℕ) (out after : List ℕ) → ((r : Refusal) → into (Refused r) ≡ out) → (answer : CardAnswer) →

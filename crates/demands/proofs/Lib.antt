@@ -8,6 +8,7 @@ pub mod FirstFault
 pub mod TwinLaws
 pub mod TwinRecords
 pub mod TwinFiles
+pub mod TwinFields
 pub mod TwinMasks
 pub mod MaskedPlaces
 pub mod HiddenDigits

@@ -17,6 +17,7 @@ use Rattle.card_run.specs.declared.running.Running.{Running}
 use Rattle.card_run.specs.Running.{openOf, closedOf}
 use Rattle.card_run.specs.declared.answer.CardAnswer.{CardAnswer}
 use Rattle.card_file.specs.CardFile.{checkOf}
+use Rattle.card_field.specs.Field.{refusalOf, fieldOf}
 use Rattle.card_mask.specs.Masked.{maskedFile}
 use Rattle.card_mask.specs.Mask.{Masks}
 use Rattle.card_sheet.specs.SheetOf.{SheetOf}
@@ -86,6 +87,8 @@ pub record HiddenDigitsReachNothing : Type 0 where
   -- the answer of a file's day sheet, and every byte of the output
   pub sheets : (edition : ℕ) (s t out : List ℕ) → TwinFiles s t → (answer-s answer-t : CardAnswer) (after-s after-t : List ℕ) →
       SheetOf edition s out answer-s after-s → SheetOf edition t out answer-t after-t → (answer-s ≡ answer-t) × (after-s ≡ after-t)
+  -- the refusal of the field question, and the part that it hands back
+  pub field : (r s : List ℕ) → TwinRecords r s → (number : ℕ) → (refusalOf r number ≡ refusalOf s number) × (fieldOf r number ≡ fieldOf s number)
 
 -- "The masked copy is the accepted file with a star at each such place": byte for byte, of every file
 pub record MaskedWhereHidden (file : List ℕ) : Type 0 where

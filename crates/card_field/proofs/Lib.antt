@@ -1,0 +1,3 @@
+pub mod Below
+mod Ends
+pub mod Offers
