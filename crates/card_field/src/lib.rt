@@ -3,7 +3,6 @@ ghost use mathlib.Core.Path.{_≡_};
 ghost use Prim.Native.Nat.{_≤_};
 ghost use Rattle.card_record.specs.Field.{partOf};
 ghost use Rattle.card_field.specs.Field.{numbered, offered, fieldOf, refusalOf};
-
 use card_record::cv::Cv;
 use refusal::Cause;
 use refusal::Refusal;
@@ -16,7 +15,33 @@ pub enum FieldAnswer {
 
 // Where fields 1 to 26 of a CV end: they stand side by side, the first behind nothing.
 const ENDS: [usize; 27] = [
-    0, 2, 17, 29, 37, 43, 44, 52, 53, 54, 65, 76, 87, 106, 108, 110, 122, 133, 144, 155, 158, 164, 175, 187, 190, 193, 199,
+    0,
+    2,
+    17,
+    29,
+    37,
+    43,
+    44,
+    52,
+    53,
+    54,
+    65,
+    76,
+    87,
+    106,
+    108,
+    110,
+    122,
+    133,
+    144,
+    155,
+    158,
+    164,
+    175,
+    187,
+    190,
+    193,
+    199,
 ];
 
 // The part of a record that is the field with such a number.

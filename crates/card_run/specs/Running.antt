@@ -1,7 +1,7 @@
 -- The running state: what one record, taken at its place, makes of it.
 use Prim.Native.Nat.{ℕ}
 use mathlib.Core.List.{List, [], _∷_}
-use mathlib.Core.Bool.{Bool, true, false, cond, _||_}
+use mathlib.Core.Bool.{false, cond, _||_}
 use lib.Dec.{eqb}
 use Rattle.refusal.specs.declared.Cause.{Cause}
 use Rattle.refusal.specs.declared.Cause.the-variants.{EditionUnknown, KindUnknown, KindNotAllowedHere, SequenceWrong, TrailerDisagrees, EndsTooEarly, BytesAfterTheEnd}

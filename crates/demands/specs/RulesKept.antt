@@ -10,6 +10,12 @@ use Rattle.card_file.specs.CardFile.{checkOf}
 use Rattle.card_kept.specs.Accepts.{Accepts}
 use Rattle.card_kept.specs.Kept.{Kept}
 use Rattle.card_kept.specs.Numbers.{Numbers}
+use Rattle.payroll_file.specs.declared.answer.Accepted.{Accepted as PayrollNumbers}
+use Rattle.payroll_file.specs.declared.answer.PayrollAnswer.the-variants.{Accepted as PayrollAccepted}
+use Rattle.payroll_file.specs.PayrollFile.{checkOf as payrollCheckOf}
+use Rattle.payroll_kept.specs.Accepts as payroll
+use Rattle.payroll_kept.specs.Kept as payroll-file
+use Rattle.payroll_kept.specs.Numbers as payroll-numbers
 use Rattle.day_sheet.specs.declared.sheet.Sheet.{Sheet}
 use Rattle.day_sheet.specs.declared.reader.SheetRead.the-variants.{Read}
 use Rattle.day_sheet.specs.Sheet.{sheetAllowed}
@@ -21,6 +27,12 @@ use Rattle.card_sheet.specs.SheetOf.{sheetFrom}
 pub record CardRulesKept : Type 0 where
   pub exactly : (edition : ℕ) (bytes : List ℕ) → (Accepts edition bytes → Kept edition bytes) × (Kept edition bytes → Accepts edition bytes)
   pub numbers : (edition : ℕ) (bytes : List ℕ) (a : CardNumbers) → checkOf edition bytes ≡ Accepted a → (kept : Kept edition bytes) → Numbers (kept .file) a
+
+-- a payroll file
+pub record PayrollRulesKept : Type 0 where
+  pub exactly : (bytes : List ℕ) → (payroll.Accepts bytes → payroll-file.Kept bytes) × (payroll-file.Kept bytes → payroll.Accepts bytes)
+  pub numbers : (bytes : List ℕ) (a : PayrollNumbers) → payrollCheckOf bytes ≡ PayrollAccepted a → (kept : payroll-file.Kept bytes) →
+      payroll-numbers.Numbers (kept .file) a
 
 -- a day sheet
 pub record SheetThereAndBack : Type 0 where

@@ -23,7 +23,10 @@ fn print_editions(file: &[u8]) {
     print_line(b"edition 3", card_file::check(3, file));
     print_line(b"edition 258", card_file::check(258, file));
     print_line(b"edition 2^32 + 2", card_file::check(4294967298, file));
-    print_line(b"edition 2^64 - 1", card_file::check(18446744073709551615, file));
+    print_line(
+        b"edition 2^64 - 1",
+        card_file::check(18446744073709551615, file),
+    );
 }
 
 // A state between batches that has taken so many records, without a sale.

@@ -1,10 +1,10 @@
 -- What the next line makes of a run over the bytes from a place on: the search for LF finds it, finds none, or has nothing to search.
 use Prim.Native.Nat.{ℕ, _+_, _-_, _≤_}
 use mathlib.Core.Path.{_≡_, sym, _∙_, ap}
-use mathlib.Core.List.{List, []}
+use mathlib.Core.List.{List}
 use native.Mathlib.Omega.{arith}
 use lib.ListN.{length, take, drop, length-drop, drop-of-length-le}
-use lib.Seq.{take-all, take-nil}
+use lib.Seq.{take-all}
 use Rattle.lines.specs.declared.Found.the-variants.{At, Nowhere}
 use Rattle.lines.specs.Lines.{cut, nextLf}
 use Rattle.lines.proofs.Cuts.{cut-at, cut-nowhere}

@@ -1,7 +1,7 @@
 -- The running state: what one record, taken at its place, makes of it.
 use Prim.Native.Nat.{ℕ, _^_}
 use mathlib.Core.List.{List, [], _∷_, _++_}
-use mathlib.Core.Bool.{Bool, true, false, cond}
+use mathlib.Core.Bool.{false}
 use lib.Dec.{leb, ltb}
 use Rattle.refusal.specs.declared.Cause.{Cause}
 use Rattle.refusal.specs.declared.Cause.the-variants.{KindUnknown, KindNotAllowedHere, WrongWidth, SequenceWrong, TrailerDisagrees, BytesAfterTheEnd}

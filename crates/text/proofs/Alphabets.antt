@@ -1,6 +1,6 @@
 -- Laws of `holdsOnly`: it says that each byte is allowed, and goes by the parts of a part.
 use Prim.Native.Nat.{ℕ, zero, suc, _≤_, _<_}
-use mathlib.Core.Path.{_≡_, refl, sym, _∙_, ap}
+use mathlib.Core.Path.{_≡_, refl, _∙_, ap}
 use mathlib.Core.List.{List, [], _∷_, _++_}
 use mathlib.Core.Bool.{Bool, true, false, _&&_, false≢true}
 use native.Mathlib.Omega.{arith}
@@ -9,7 +9,7 @@ use lib.Dec.{leb}
 use borrow.Author.Tests.{leb-true}
 use Rattle.text.specs.declared.alphabet.Alphabet.{Alphabet}
 use Rattle.text.specs.declared.alphabet.Alphabet.the-variants.{Digits}
-use Rattle.text.specs.Alphabet.{allowed, digit, holdsOnly}
+use Rattle.text.specs.Alphabet.{allowed, holdsOnly}
 
 -- both halves of a test that holds
 pub both-left : (p q : Bool) → p && q ≡ true → p ≡ true

@@ -1,5 +1,5 @@
 -- `payroll_file::file::answer_before_trailer` meets its contract: whether bytes are left decides.
-use mathlib.Core.Path.{sym, _∙_, ap}
+use mathlib.Core.Path.{_∙_, ap}
 use Rattle.payroll_file.specs.declared.answer.PayrollAnswer.the-variants.{Refused}
 use Rattle.payroll_file.proofs.Ends.{nothing-cut, something-cut}
 use borrow.Author.Needs.{needs}

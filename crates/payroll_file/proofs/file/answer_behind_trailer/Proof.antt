@@ -1,5 +1,5 @@
 -- `payroll_file::file::answer_behind_trailer` meets its contract: nothing, one byte 1A, or something else is left.
-use mathlib.Core.Path.{sym, _∙_, ap}
+use mathlib.Core.Path.{_∙_, ap}
 use Rattle.payroll_file.specs.declared.answer.PayrollAnswer.the-variants.{Refused}
 use Rattle.refusal.proofs.Rows.{told}
 use Rattle.payroll_file.proofs.Ends.{nothing-behind, mark-behind, other-behind}

@@ -1,6 +1,6 @@
 -- `card_run::running::Running::a9_fault` meets its contract: the place, the sequence number, then what it counts.
 use Prim.Native.Nat.{ℕ}
-use mathlib.Core.Path.{sym, _∙_, ap}
+use mathlib.Core.Path.{_∙_, ap}
 use mathlib.Core.List.{[], _∷_}
 use lib.Dec.{eqb}
 use Rattle.refusal.specs.declared.Cause.the-variants.{SequenceWrong, TrailerDisagrees}

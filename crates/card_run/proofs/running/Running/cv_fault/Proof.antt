@@ -1,5 +1,5 @@
 -- `card_run::running::Running::cv_fault` meets its contract: the place, the sequence number, then the joined rules of the record alone.
-use mathlib.Core.Path.{sym, _∙_, ap}
+use mathlib.Core.Path.{_∙_, ap}
 use mathlib.Core.List.{List, [], _∷_, append-nil}
 use Rattle.refusal.specs.Rules.{Rule, firstBroken}
 use lib.Dec.{eqb}

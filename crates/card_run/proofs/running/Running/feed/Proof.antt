@@ -1,5 +1,5 @@
 -- `card_run::running::Running::feed` meets its contract: what reading answers is taken.
-use mathlib.Core.Path.{sym, _∙_, ap}
+use mathlib.Core.Path.{_∙_, ap}
 use Rattle.card_run.specs.Running.{tookOf}
 use borrow.Author.Needs.{needs}
 use Rattle.card_run.proofs.running.Running.feed.Statement.{statement}

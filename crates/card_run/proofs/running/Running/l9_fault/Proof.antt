@@ -1,5 +1,5 @@
 -- `card_run::running::Running::l9_fault` meets its contract: the place, the sequence number, then what it counts and sums.
-use mathlib.Core.Path.{refl, sym, _∙_, ap}
+use mathlib.Core.Path.{refl, _∙_, ap}
 use mathlib.Core.List.{[], _∷_}
 use lib.Dec.{eqb}
 use Rattle.refusal.specs.declared.Cause.the-variants.{SequenceWrong, TrailerDisagrees}

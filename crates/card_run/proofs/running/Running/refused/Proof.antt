@@ -1,6 +1,6 @@
 -- `card_run::running::Running::refused` meets its contract: the stage alone changes.
 use Prim.Native.Nat.{ℕ}
-use mathlib.Core.Path.{sym, _∙_, ap}
+use mathlib.Core.Path.{_∙_, ap}
 use Rattle.card_run.specs.declared.stage.Stage.the-variants.{Refused}
 use Rattle.card_run.specs.Running.{staged}
 use borrow.Author.Needs.{needs}

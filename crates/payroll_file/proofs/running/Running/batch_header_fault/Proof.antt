@@ -1,6 +1,6 @@
 -- `payroll_file::running::Running::batch_header_fault` meets its contract: the place, the front, then the batch number.
 use Prim.Native.Nat.{ℕ}
-use mathlib.Core.Path.{sym, _∙_, ap}
+use mathlib.Core.Path.{_∙_, ap}
 use mathlib.Core.List.{[], _∷_}
 use lib.Dec.{leb}
 use Rattle.refusal.specs.declared.Cause.the-variants.{SequenceWrong}

@@ -1,6 +1,6 @@
 -- `payroll_file::running::Running::batch_trailer_fault` meets its contract: the place, the front, the batch number, then what it counts and sums.
 use Prim.Native.Nat.{ℕ}
-use mathlib.Core.Path.{sym, _∙_, ap}
+use mathlib.Core.Path.{_∙_, ap}
 use mathlib.Core.List.{List, [], _∷_, _++_, append-nil}
 use Rattle.refusal.specs.declared.Cause.the-variants.{SequenceWrong, TrailerDisagrees}
 use Rattle.refusal.specs.Rules.{Rule, firstBroken}

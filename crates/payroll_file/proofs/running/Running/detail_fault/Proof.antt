@@ -1,6 +1,6 @@
 -- `payroll_file::running::Running::detail_fault` meets its contract: the place, the front, the two numbers, then the rest.
 use Prim.Native.Nat.{ℕ}
-use mathlib.Core.Path.{sym, _∙_, ap}
+use mathlib.Core.Path.{_∙_, ap}
 use mathlib.Core.List.{List, [], _∷_, _++_, append-nil}
 use Rattle.refusal.specs.declared.Cause.the-variants.{SequenceWrong}
 use Rattle.refusal.specs.Rules.{Rule, firstBroken}

@@ -1,6 +1,6 @@
 -- `payroll_file::running::Running::file_trailer_fault` meets its contract: the place, the front, what it counts, then the amount.
 use Prim.Native.Nat.{ℕ, _^_}
-use mathlib.Core.Path.{refl, sym, _∙_, ap}
+use mathlib.Core.Path.{refl, _∙_, ap}
 use mathlib.Core.List.{[], _∷_}
 use lib.Dec.{ltb}
 use Rattle.refusal.specs.declared.Cause.the-variants.{TrailerDisagrees}

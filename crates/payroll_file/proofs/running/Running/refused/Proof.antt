@@ -1,5 +1,5 @@
 -- `payroll_file::running::Running::refused` meets its contract: the stage alone changes.
-use mathlib.Core.Path.{sym, _∙_, ap}
+use mathlib.Core.Path.{_∙_, ap}
 use Rattle.refusal.specs.declared.Refusal.{Refusal}
 use Rattle.payroll_file.specs.declared.stage.Stage.the-variants.{Refused}
 use Rattle.payroll_file.specs.Running.{staged}

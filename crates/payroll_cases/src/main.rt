@@ -1,0 +1,129 @@
+// Payroll files: prints the answer of each case, a line each, first of the outside cases, then of our own, and last of files that are made here.
+use cases::answer;
+use cases::cursor::Cursor;
+use cases::cursor::LENGTH_BYTES;
+use cases::cursor::Number;
+use cases::cursor::Place;
+use cases::file;
+use cases::print;
+use payroll_file::answer::Accepted;
+use payroll_file::answer::PayrollAnswer;
+
+mod made;
+mod record;
+
+// A blank, and a number.
+fn print_next(n: u64) {
+    print::text(b" ");
+    print::number(n);
+}
+
+// `A records batches payments amount`
+fn print_accepted(accepted: Accepted) {
+    print::text(b"A");
+    print_next(accepted.records);
+    print_next(accepted.batches);
+    print_next(accepted.payments);
+    print_next(accepted.amount);
+}
+
+// Prints the answer of a file, a line.
+fn print_answer(file: &[u8]) {
+    let answer = payroll_file::file::check(file);
+    match answer {
+        PayrollAnswer::Accepted(accepted) => print_accepted(accepted),
+        PayrollAnswer::Refused(refusal) => answer::print_refusal(refusal),
+    }
+    print::text(b"\n");
+}
+
+// Prints the answer of the case that stands here, and answers the place behind it.
+fn print_case(cases: &[u8], from: Cursor) -> Place {
+    let Number::Of(length, at_file) = from.number(cases, LENGTH_BYTES) else {
+        return Place::Missing;
+    };
+    let Place::At(next) = at_file.behind(cases, length) else {
+        return Place::Missing;
+    };
+    print_answer(at_file.part(cases, length));
+    Place::At(next)
+}
+
+// Prints the answers of all cases. Each case takes a byte at least, so there are no more turns than bytes.
+fn print_cases(cases: &[u8]) {
+    let mut from = Cursor::start();
+    let mut turns = cases.len();
+    while turns > 0 && from.has(cases, 1) {
+        let Place::At(next) = print_case(cases, from) else {
+            print::text(b"a case is cut short\n");
+            return;
+        };
+        from = next;
+        turns -= 1;
+    }
+}
+
+// Prints the answers of a file of cases.
+fn print_file(path: &[u8]) {
+    let mut buffer = file::room();
+    let size = file::load(path, &mut buffer);
+    print_cases(&buffer[..size]);
+}
+
+// Prints the answer of what was made: so many bytes in front of the room.
+fn print_made(room: &[u8], size: usize) {
+    if size <= room.len() {
+        print_answer(&room[0..size]);
+    }
+}
+
+// The sums of one batch: of 18 digits, of 19 and modulo 10^18, and past 2^64 and modulo 2^64.
+fn print_sums(room: &mut [u8]) {
+    let fits = made::one_batch(1000, 999_999_999_999_999_000, room);
+    print_made(room, fits);
+    let past_18_digits = made::one_batch(1001, 999_999_999_998_999, room);
+    print_made(room, past_18_digits);
+    let past_64_bits = made::one_batch(18447, 255_926_290_429_937, room);
+    print_made(room, past_64_bits);
+}
+
+// The amounts of a whole file: 10^19 - 1, and 10^19, with the byte 1A and without.
+fn print_amounts(room: &mut [u8]) {
+    let fits = made::ten_batches_and(9999, room);
+    print_made(room, fits);
+    let too_large = made::ten_batches_and(10000, room);
+    print_made(room, too_large);
+    if too_large > 0 {
+        print_made(room, too_large - 1);
+    }
+}
+
+// The batches of a file: as many as there may be, and one more.
+fn print_batches(room: &mut [u8]) {
+    let fits = made::empty_batches(9998, room);
+    print_made(room, fits);
+    let too_many = made::empty_batches(9999, room);
+    print_made(room, too_many);
+}
+
+// Prints the answers of the files that are too long to be kept.
+fn print_all_made(room: &mut [u8]) {
+    print_sums(room);
+    print_amounts(room);
+    print_batches(room);
+}
+
+// The same, in room for 9,998 batches with no payment, the longest file here.
+fn print_made_files() {
+    let mut room = [0; 4839517];
+    print_all_made(&mut room);
+}
+
+fn main() {
+    print::text(b"outside\n");
+    print_file(b"outside.cases");
+    print::text(b"own\n");
+    print_file(b"own.cases");
+    print::text(b"made\n");
+    print_made_files();
+}

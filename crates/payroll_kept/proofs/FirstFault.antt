@@ -1,0 +1,88 @@
+-- THE FIRST FAULT of a payroll record: the first fault of the one list settles what comes behind the record, so it is refused by that fault or not at all.
+use Prim.Native.Nat.{ℕ}
+use mathlib.Core.Path.{_≡_, refl, sym, _∙_, ap, subst}
+use mathlib.Core.List.{List}
+use Rattle.refusal.specs.declared.Cause.{Cause}
+use Rattle.refusal.specs.declared.Fault.{Fault}
+use Rattle.refusal.specs.declared.Fault.the-variants.{Nothing, At}
+use Rattle.refusal.specs.declared.Refusal.{Refusal}
+use Rattle.refusal.specs.Rules.{firstBroken}
+use Rattle.refusal.proofs.Rules.{all-hold, none-broken, is-first, gives-first}
+use Rattle.payroll_record.specs.declared.kind.Kind.{Kind}
+use Rattle.payroll_record.specs.declared.kind.Kind.the-variants.{FileHeader, BatchHeader, SegmentA, SegmentB, SegmentZ, BatchTrailer, FileTrailer}
+use Rattle.payroll_record.specs.declared.reading.Reading.{Reading}
+use Rattle.payroll_record.specs.declared.reading.Reading.the-variants.{
+  WrongWidth as wrongWidth,
+  UnknownKind as unknownKind,
+  UnknownSegment as unknownSegment,
+  FileHeader as fileHeader,
+  BatchHeader as batchHeader,
+  Detail as detail,
+  BatchTrailer as batchTrailer,
+  FileTrailer as fileTrailer,
+}
+use Rattle.payroll_record.specs.Reading.{readingOf}
+use Rattle.payroll_file.specs.declared.stage.Stage.the-variants.{Refused}
+use Rattle.payroll_file.specs.declared.running.Running.{Running}
+use Rattle.payroll_file.specs.Running.{refusalAt, behindDetailAs, behind, settled, tookOf}
+use Rattle.payroll_kept.specs.FirstFault.{recordRules, Going, RefusedBy, FirstFaultOfRecord}
+use Rattle.payroll_kept.proofs.AtItsPlace.{clash, by-the-list}
+
+-- behind a record nothing is refused
+module _ (st : Running) (going : Going st) where
+  detail-goes-on : (kind : Kind) (amount : ℕ) → Going (behindDetailAs kind st amount)
+  unfolding behindDetailAs
+  detail-goes-on FileHeader amount = going
+  detail-goes-on BatchHeader amount = going
+  detail-goes-on SegmentA amount = λ x q. clash (cc)
+  detail-goes-on SegmentB amount = λ x q. clash (cc)
+  detail-goes-on SegmentZ amount = λ x q. clash (cc)
+  detail-goes-on BatchTrailer amount = going
+  detail-goes-on FileTrailer amount = going
+
+  pub goes-on : (reading : Reading) → Going (behind st reading)
+  unfolding behind
+  goes-on wrongWidth = going
+  goes-on unknownKind = going
+  goes-on unknownSegment = going
+  goes-on (fileHeader x) = λ x q. clash (cc)
+  goes-on (batchHeader x) = λ x q. clash (cc)
+  goes-on (detail d) = detail-goes-on (d .segment) (d .amount)
+  goes-on (batchTrailer x) = λ x q. clash (cc)
+  goes-on (fileTrailer x) = λ x q. clash (cc)
+
+-- the refusal at a record names its cause and its column
+names : (st : Running) (cause : Cause) (column : ℕ) (refusal : Refusal) → Refused (refusalAt cause column st) ≡ Refused refusal → refusalAt cause column st ≡ refusal
+names st cause column refusal e = cc
+
+module _ (st : Running) (r : List ℕ) (going : Going st) where
+  by-fault : (fault : Fault) → firstBroken (recordRules st r) ≡ fault → tookOf st (readingOf r) ≡ settled st (readingOf r) fault → FirstFaultOfRecord st r
+  unfolding settled
+  by-fault Nothing f e =
+      let on : Going (tookOf st (readingOf r)) = λ x q. goes-on st going (readingOf r) x (sym (ap (λ next. next .stage) e) ∙ q) in
+      record {
+        is-refused = λ x. (λ q. absurd (on x q), λ by. clash (let z = sym f ∙ gives-first (by .first-broken) in cc));
+        is-not = (λ g. all-hold (recordRules st r) f, λ h. on);
+      }
+  by-fault (At cause column) f e =
+      let stopped : tookOf st (readingOf r) .stage ≡ Refused (refusalAt cause column st) = ap (λ next. next .stage) e in
+      record {
+        is-refused = λ x. (
+          λ q. subst (RefusedBy st (recordRules st r)) (names st cause column x (sym stopped ∙ q))
+              (record { number = refl; first-broken = is-first (recordRules st r) cause column f }),
+          λ by.
+              let same : At cause column ≡ At (x .cause) (x .column) = sym f ∙ gives-first (by .first-broken) in
+              let c : cause ≡ x .cause = cc in
+              let k : column ≡ x .column = cc in
+              let n = by .number in
+              stopped ∙ (λ i. Refused (record { cause = c i; «record» = sym n i; column = k i })),
+        );
+        is-not = (
+          λ g. absurd (g _ stopped),
+          λ h. clash (let z = sym f ∙ none-broken (recordRules st r) h in cc),
+        );
+      }
+
+  -- THE THEOREM of a record, in every state that is not refused
+  pub first-fault-of-record : FirstFaultOfRecord st r
+  first-fault-of-record = by-fault (firstBroken (recordRules st r)) refl (by-the-list st r going)

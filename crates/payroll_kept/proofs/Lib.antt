@@ -1,0 +1,17 @@
+pub mod Names
+pub mod Rules
+pub mod Plain
+pub mod Next
+pub mod Steps
+pub mod Refused
+pub mod Payments
+pub mod OneLine
+pub mod Accepting
+pub mod Left
+pub mod Inverting
+pub mod Numbers
+pub mod KeptMeansKept
+pub mod Faults
+pub mod AtItsPlace
+pub mod FirstFault
+pub mod FirstFaultOfFile

@@ -1,0 +1,213 @@
+#!/usr/bin/env python3
+"""Our own cases of masked copies, written by hand from document 01.
+
+    tests/mask_cases.py           write the files below
+    tests/mask_cases.py --list    and print where in `stdout` each case stands, its name and its answer
+
+It writes crates/mask_cases/data/own.cases (edition (1 byte), the output's length (4), length (4), the file) and what stands behind the line `own`
+in crates/mask_cases/stdout.
+
+A case is a name, a file, the line that document 01 gives it, and what the output begins with after the call. All of these are written here by
+hand; only the hash that stands for the output's bytes in a line is computed. No program under test was asked for an answer.
+
+A line is `A date movement records batches sales gross discount net` or `R number record column`, and the hash of the whole output.
+"""
+import pathlib
+import sys
+
+CRATE = pathlib.Path(__file__).resolve().parent.parent / "crates" / "mask_cases"
+
+# ---- How a file is built -------------------------------------------------------------------------------------------------------------------
+
+A0 = (b"A0" b"001.7d" b"20231115" b"083000" b"000042" + b"REDE DE POSTOS".ljust(30) + b"0101" b"000777" b"N" b"000001")
+L0 = b"L0" b"20231115" b"RE" b"000002"
+# A cash sale of 10000 = 250 + 9750, whose card of sixteen is 4111111111111111.
+CV = (b"CV" + b"POSTO 7".ljust(15) + b"000000012345" b"20231114" b"235959" b"1" b"20231215" b"D" b"1"
+      b"00000010000" b"00000000250" b"00000009750" b"0004111111111111111" b"00" b"00" b"000000000000"
+      b"00000000000" b"00000000000" b"00000000000" b"422" b"000123" + b"45678-9".ljust(11) + b"000000998877" b"001" b"010" b"000003")
+L9 = b"L9" b"000001" b"00000000010000" b"000004"
+A9 = b"A9" b"000005" b"000005"
+assert [len(r) for r in (A0, L0, CV, L9, A9)] == [75, 18, 199, 28, 14]
+CARD = 88
+
+
+def put(record, position, text):
+    """The record with this text from this position on; positions count from 1."""
+    assert position - 1 + len(text) <= len(record)
+    return record[:position - 1] + text + record[position - 1 + len(text):]
+
+
+def numbered(record, number):
+    """The record with this NSEQ, which is the last six bytes of every kind."""
+    return put(record, len(record) - 5, b"%06d" % number)
+
+
+def whole(*records):
+    return b"".join(record + b"\r\n" for record in records)
+
+
+def sale(cv):
+    """The file of five records with this CV."""
+    return whole(A0, L0, cv, L9, A9)
+
+
+def carded(card):
+    assert len(card) == 19
+    return sale(put(CV, CARD, card))
+
+
+FIVE = sale(CV)
+MASKED_FIVE = carded(b"000411111******1111")
+ACCEPTED = "A 20231115 000042 5 1 1 10000 250 9750"
+
+CASES = []
+
+
+def case(name, file, line, front=b"", size=None, edition=2):
+    """`front` is what the output begins with after the call; behind it the output is as it was before. Without a size it is as long as the file."""
+    CASES.append((name, edition, len(file) if size is None else size, file, line, front))
+
+
+# ---- Cards ---------------------------------------------------------------------------------------------------------------------------------
+
+# Of each number of valid characters: the card, and the card masked.
+for valid, card, masked in (
+        (0, b"0000000000000000000", b"0000000000000000000"),
+        (1, b"0000000000000000001", b"0000000000000000001"),
+        (2, b"0000000000000000012", b"0000000000000000012"),
+        (3, b"0000000000000000123", b"0000000000000000123"),
+        (4, b"0000000000000001234", b"0000000000000001234"),
+        (5, b"0000000000000012345", b"0000000000000012345"),
+        (6, b"0000000000000123456", b"0000000000000123456"),
+        (7, b"0000000000001234567", b"0000000000001234567"),
+        (8, b"0000000000012345678", b"0000000000012345678"),
+        (9, b"0000000000123456789", b"0000000000123456789"),
+        (10, b"0000000001234567890", b"0000000001234567890"),
+        (11, b"0000000012345678901", b"0000000012345678901"),
+        (12, b"0000000123456789012", b"0000000123456789012"),
+        (13, b"0000001234567890123", b"0000001234*****0123"),
+        (14, b"0000012345678901234", b"000001234******1234"),
+        (15, b"0000123456789012345", b"00001234*******2345"),
+        (16, b"0001234567890123456", b"000123456******3456"),
+        (17, b"0012345678901234567", b"00123456*******4567"),
+        (18, b"0123456789012345678", b"0123456********5678"),
+        (19, b"1234567890123456789", b"123456*********6789")):
+    case("%d valid characters" % valid, carded(card), ACCEPTED, carded(masked))
+    case("%d valid characters, edition 1" % valid, carded(card), ACCEPTED, carded(masked), edition=1)
+
+for name, card, masked in (
+        ("stars at hidden places", b"000123456****123456", b"000123456******3456"),
+        ("stars at all hidden places", b"000123456******3456", b"000123456******3456"),
+        ("a star at the first hidden place", b"000123456*890123456", b"000123456******3456"),
+        ("a star at the last hidden place", b"00012345678901*3456", b"000123456******3456"),
+        ("a star at the first open place", b"000*234567890123456", b"000*23456******3456"),
+        ("a star at the sixth open place", b"00012345*7890123456", b"00012345*******3456"),
+        ("a star at the first of the last four", b"000123456789012*456", b"000123456*******456"),
+        ("a star at the last place", b"000123456789012345*", b"000123456******345*"),
+        ("a star ends the leading zeros: 18 valid", b"0*00000000000000000", b"0*00000********0000"),
+        ("a star in front: 19 valid", b"*000000000000000000", b"*00000*********0000"),
+        ("a star at the end alone: 1 valid", b"000000000000000000*", b"000000000000000000*"),
+        ("twelve stars", b"0000000************", b"0000000************"),
+        ("thirteen, the first a star", b"000000*234567890123", b"000000*234*****0123"),
+        ("twelve, the first a star", b"0000000*23456789012", b"0000000*23456789012"),
+        ("fifteen, the first a star", b"0000*23456789012345", b"0000*234*******2345"),
+        ("nineteen stars", b"*******************", b"*******************"),
+        ("zeros inside are valid", b"0001000000000000000", b"000100000******0000"),
+        ("thirteen, all zeros but the first", b"0000001000000000000", b"0000001000*****0000"),
+        ("nineteen nines", b"9999999999999999999", b"999999*********9999")):
+    case(name, carded(card), ACCEPTED, carded(masked))
+
+# ---- Nowhere else --------------------------------------------------------------------------------------------------------------------------
+
+# The card's digits in other fields stay: A0's name, the store, NSU, account and authorisation.
+TOLD = put(put(put(put(CV, 3, b"111111111111111"), 18, b"111111111111"), 165, b"11111111111"), 176, b"111111111111")
+NAMED = put(A0, 29, b"4111111111111111")
+case("the card's digits in other fields stay", whole(NAMED, L0, TOLD, L9, A9), ACCEPTED,
+     whole(NAMED, L0, put(TOLD, CARD, b"000411111******1111"), L9, A9))
+# A record of 75 bytes in which CV stands, but not in front.
+case("CV inside A0's name", whole(put(A0, 29, b"CV"), L0, CV, L9, A9), ACCEPTED,
+     whole(put(A0, 29, b"CV"), L0, put(CV, CARD, b"000411111******1111"), L9, A9))
+case("no batch: nothing to mask", whole(A0, b"A9" b"000002" b"000002"), "A 20231115 000042 2 0 0 0 0 0", whole(A0, b"A9" b"000002" b"000002"))
+
+# Several sales, in one batch and in two, each masked by its own card.
+SECOND = numbered(put(CV, CARD, b"1234567890123456789"), 4)
+THIRD = numbered(put(CV, CARD, b"0000000123456789012"), 5)
+case("three sales in a batch", whole(A0, L0, CV, SECOND, THIRD, b"L9" b"000003" b"00000000030000" b"000006", b"A9" b"000007" b"000007"),
+     "A 20231115 000042 7 1 3 30000 750 29250",
+     whole(A0, L0, put(CV, CARD, b"000411111******1111"), put(SECOND, CARD, b"123456*********6789"), THIRD,
+           b"L9" b"000003" b"00000000030000" b"000006", b"A9" b"000007" b"000007"))
+LATER = numbered(put(CV, CARD, b"0000001234567890123"), 6)
+case("a sale in each of two batches", whole(A0, L0, CV, L9, numbered(L0, 5), LATER, numbered(L9, 7), b"A9" b"000008" b"000008"),
+     "A 20231115 000042 8 2 2 20000 500 19500",
+     whole(A0, L0, put(CV, CARD, b"000411111******1111"), L9, numbered(L0, 5), put(LATER, CARD, b"0000001234*****0123"), numbered(L9, 7),
+           b"A9" b"000008" b"000008"))
+case("capture 7 under edition 2", sale(put(CV, 54, b"7")), ACCEPTED, sale(put(put(CV, 54, b"7"), CARD, b"000411111******1111")))
+
+# ---- The output's length -------------------------------------------------------------------------------------------------------------------
+
+# The five records and their line ends are 344 bytes.
+assert len(FIVE) == 344
+case("as long as the file", FIVE, ACCEPTED, MASKED_FIVE, size=344)
+case("one longer: the last byte stays", FIVE, ACCEPTED, MASKED_FIVE, size=345)
+case("600: what is past the file stays", FIVE, ACCEPTED, MASKED_FIVE, size=600)
+case("4096: what is past the file stays", FIVE, ACCEPTED, MASKED_FIVE, size=4096)
+case("2: one shorter", FIVE, "R 2 0 0", size=343)
+case("2: no output", FIVE, "R 2 0 0", size=0)
+case("2: one byte", FIVE, "R 2 0 0", size=1)
+case("2, edition 1", FIVE, "R 2 0 0", size=343, edition=1)
+case("2 before 12: a file that ends too early", whole(A0, L0, CV), "R 2 0 0", size=297)
+case("2 before 10: a file whose net is 9751", sale(put(CV, 77, b"00000009751")), "R 2 0 0", size=343)
+case("1 before 2: edition 0", FIVE, "R 1 0 0", size=343, edition=0)
+case("1 before 2: edition 3", FIVE, "R 1 0 0", size=0, edition=3)
+
+# ---- A refused file leaves the output as it was -----------------------------------------------------------------------------------------------
+
+for size in (344, 600):
+    for edition in (0, 3, 255):
+        case("1: edition %d, output %d" % (edition, size), FIVE, "R 1 0 0", size=size, edition=edition)
+    case("10: net 9751, output %d" % size, sale(put(CV, 77, b"00000009751")), "R 10 3 77", size=size)
+    case("9: CV numbered 000004, output %d" % size, sale(put(CV, 194, b"000004")), "R 9 3 194", size=size)
+    case("8: capture 7 under edition 1, output %d" % size, sale(put(CV, 54, b"7")), "R 8 3 54", size=size, edition=1)
+    case("7: a blank in the card, output %d" % size, carded(b"0004111 11111111111"), "R 7 3 88", size=size)
+    case("11: A9's count, output %d" % size, whole(A0, L0, CV, L9, b"A9" b"000004" b"000005"), "R 11 5 3", size=size)
+    case("4: an unknown kind, output %d" % size, sale(put(CV, 1, b"CP")), "R 4 3 1", size=size)
+    case("3: no line end, output %d" % size, FIVE[:-2], "R 3 5 0", size=size)
+case("12: behind CV", whole(A0, L0, CV), "R 12 4 0")
+case("12: an empty file, no output", b"", "R 12 1 0", size=0)
+case("12: an empty file, ten bytes of output", b"", "R 12 1 0", size=10)
+case("13: one byte after the end", FIVE + b"x", "R 13 6 0")
+case("13: a second file", FIVE + FIVE, "R 13 6 0")
+case("13: the output too short for the bytes after the end", FIVE + b"x", "R 2 0 0", size=344)
+
+# ---- Writing them --------------------------------------------------------------------------------------------------------------------------
+
+
+def number(n):
+    return n.to_bytes(4, "big")
+
+
+def hashed(size, front):
+    """The hash of an output of this size that begins with `front` and is else as every case finds it."""
+    before = bytes((i * 7 + 3) % 256 for i in range(size))
+    h = 0
+    for byte in front + before[len(front):]:
+        h = (h * 31 + byte) % 2**32
+    return h
+
+
+def main():
+    if sys.argv[1:] not in ([], ["--list"]):
+        sys.exit(__doc__)
+    (CRATE / "data" / "own.cases").write_bytes(b"".join(
+        bytes([edition]) + number(size) + number(len(file)) + file for _, edition, size, file, _, _ in CASES))
+    lines = [(name, f"{line} {hashed(size, front)}") for name, _, size, _, line, front in CASES]
+    stdout = CRATE / "stdout"
+    there = stdout.read_text().split("\n")
+    kept = there[:there.index("own") + 1]
+    stdout.write_text("\n".join(kept + [line for _, line in lines]) + "\n")
+    if sys.argv[1:]:
+        for i, (name, line) in enumerate(lines):
+            print(f"stdout:{len(kept) + i + 1}: {name}: {line}")
+
+
+main()
