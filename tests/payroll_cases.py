@@ -107,6 +107,7 @@ MADE = [
     ("an amount of 10^19 - 1 over eleven batches", "A 10025 11 10001 9999999999999999999"),
     ("an amount of 10^19", "R 11 10025 0"),
     ("an amount of 10^19, before 12", "R 11 10025 0"),
+    ("an amount past 2^64", "R 11 19040 0"),
     ("9,998 batches", "A 19998 9998 0 0"),
     ("9,999 batches", "R 9 19998 4"),
 ]

@@ -64,6 +64,13 @@ pub fn ten_batches_and(amount: u64, out: &mut [u8]) -> usize {
     put_end(11, 10025, out, eleventh)
 }
 
+// So many batches of a thousand payments of the largest amount.
+pub fn full_batches(batches: u32, out: &mut [u8]) -> usize {
+    let header = record::put_header(out, 0);
+    let all = put_batches(batches as u64, 1000, LARGEST, SUM_OF_1000, out, header);
+    put_end(batches as u64, batches as u64 * 1002 + 2, out, all)
+}
+
 // So many batches with no payment.
 pub fn empty_batches(batches: u32, out: &mut [u8]) -> usize {
     let header = record::put_header(out, 0);

@@ -87,7 +87,7 @@ fn print_sums(room: &mut [u8]) {
     print_made(room, past_64_bits);
 }
 
-// The amounts of a whole file: 10^19 - 1, and 10^19, with the byte 1A and without.
+// The amounts of a whole file: 10^19 - 1, and 10^19, with the byte 1A and without; and one past 2^64, which is below 10^19 where it wraps.
 fn print_amounts(room: &mut [u8]) {
     let fits = made::ten_batches_and(9999, room);
     print_made(room, fits);
@@ -96,6 +96,8 @@ fn print_amounts(room: &mut [u8]) {
     if too_large > 0 {
         print_made(room, too_large - 1);
     }
+    let past_64_bits = made::full_batches(19, room);
+    print_made(room, past_64_bits);
 }
 
 // The batches of a file: as many as there may be, and one more.
