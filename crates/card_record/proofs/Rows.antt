@@ -1,6 +1,6 @@
 -- Faults that are joined one by one, as the code joins them, are the first fault of the rules in a row. By induction on the row.
 use Prim.Native.Nat.{ℕ}
-use mathlib.Core.Path.{_≡_, refl, sym, _∙_, ap, ap₂}
+use mathlib.Core.Path.{_≡_, refl, sym, _∙_, ap}
 use mathlib.Core.List.{List, [], _∷_, _++_, append-assoc}
 use lib.ListN.{length}
 use borrow.Author.Tests.{eq-eqb, ne-eqb}
@@ -11,17 +11,9 @@ use Rattle.refusal.specs.Fault.{ruleOf, earlierOf}
 use Rattle.refusal.specs.Rules.{Rule, firstBroken}
 use Rattle.refusal.proofs.Faults.{nothing-second, associative}
 use Rattle.refusal.proofs.Rules.{in-a-row}
+use Rattle.refusal.proofs.Rows.{joined}
 use Rattle.card_record.specs.declared.field.Field.{Field}
 use Rattle.card_record.specs.Field.{fieldRules, tableRules, recordRules}
-
--- faults joined to a first one, from the left
-abbrev joined : Fault → List Fault → Fault
-joined a [] = a
-joined a (b ∷ bs) = joined (earlierOf a b) bs
-
--- one more
-pub next : {fault first second a b : Fault} → fault ≡ earlierOf first second → second ≡ b → first ≡ a → fault ≡ earlierOf a b
-next e g f = e ∙ ap₂ earlierOf f g
 
 -- the faults of rules, and of a record's fields
 abbrev pub rule-faults : List Rule → List Fault

@@ -1,29 +1,18 @@
 -- What the code tells of an answer holds of what the answer was promised to be.
 use Prim.Native.Nat.{ℕ}
 use mathlib.Core.Path.{_≡_, sym, _∙_, ap}
-use mathlib.Core.List.{List, [], _∷_}
+use mathlib.Core.List.{List}
 use mathlib.Core.Bool.{Bool}
 use Rattle.refusal.specs.declared.Cause.{Cause}
 use Rattle.refusal.specs.declared.Fault.{Fault}
 use Rattle.refusal.specs.Fault.{ruleOf}
-use Rattle.refusal.specs.Rules.{ruleAt, firstBroken}
 use Rattle.text.specs.Literal.{sameBytes}
-use Rattle.refusal.proofs.Faults.{nothing-second}
-
--- a branch or an arm
-pub told : {A : Type 0} {answer promised v : A} → answer ≡ promised → answer ≡ v → promised ≡ v
-told e h = sym e ∙ h
+use Rattle.refusal.proofs.Rows.{told}
 
 -- a rule, of which an answer says whether it holds
 pub ruled : (cause : Cause) (column : ℕ) {fault : Fault} {answer test : Bool} → fault ≡ ruleOf cause column answer → answer ≡ test →
     fault ≡ ruleOf cause column test
 ruled cause column e h = e ∙ ap (ruleOf cause column) h
-
--- and it alone
-pub one-rule : (cause : Cause) (column : ℕ) {fault : Fault} {answer test : Bool} → fault ≡ ruleOf cause column answer → answer ≡ test →
-    fault ≡ firstBroken (ruleAt cause column test ∷ [])
-unfolding firstBroken
-one-rule cause column {test = test} e h = ruled cause column e h ∙ sym (nothing-second (ruleOf cause column test))
 
 -- a text compared with a part, told of what the part is
 pub compared : (text : List ℕ) {answer v : Bool} {part p : List ℕ} → answer ≡ sameBytes part text → part ≡ p → answer ≡ v → sameBytes p text ≡ v

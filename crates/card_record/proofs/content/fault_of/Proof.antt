@@ -7,7 +7,7 @@ use Rattle.refusal.specs.Rules.{firstBroken}
 use Rattle.calendar.specs.declared.when.When.{When}
 use Rattle.calendar.specs.When.{whenRules}
 use Rattle.card_record.specs.Content.{contentRules}
-use Rattle.card_record.proofs.Told.{one-rule}
+use Rattle.refusal.proofs.Rows.{one-rule}
 use Rattle.card_record.proofs.content.fault_of.Statement.{statement}
 use Rattle.card_record.proofs.content.fault_of.Tie as tie
 

@@ -1,7 +1,7 @@
 -- `card_record::content::is_currency` meets its contract: the tests that led to an answer say what each text compared is.
 use mathlib.Core.Path.{_∙_}
 use borrow.Author.Needs.{needs}
-use Rattle.card_record.proofs.Told.{told}
+use Rattle.refusal.proofs.Rows.{told}
 use Rattle.card_record.proofs.content.is_currency.Statement.{statement}
 use Rattle.card_record.proofs.content.is_currency.Tie as tie
 

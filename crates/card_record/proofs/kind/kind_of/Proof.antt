@@ -6,7 +6,7 @@ use mathlib.Core.Path.{_≡_, _∙_, ap}
 use borrow.Author.Needs.{needs}
 use Rattle.card_record.specs.declared.kind.KindFound.{KindFound}
 use Rattle.card_record.specs.Kind.{kindNamed}
-use Rattle.card_record.proofs.Told.{told}
+use Rattle.refusal.proofs.Rows.{told}
 use Rattle.card_record.proofs.kind.kind_of.Statement.{statement}
 use Rattle.card_record.proofs.kind.kind_of.Tie as tie
 

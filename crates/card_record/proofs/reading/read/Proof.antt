@@ -1,7 +1,7 @@
 -- `card_record::reading::read` meets its contract: the arm says whether the kind is known.
 use borrow.Author.Needs.{needs}
 use Rattle.card_record.specs.Reading.{readFound}
-use Rattle.card_record.proofs.Told.{told}
+use Rattle.refusal.proofs.Rows.{told}
 use Rattle.card_record.proofs.reading.read.Statement.{statement}
 use Rattle.card_record.proofs.reading.read.Tie as tie
 

@@ -2,7 +2,8 @@
 use mathlib.Core.Path.{_∙_}
 use borrow.Author.Needs.{needs}
 use Rattle.card_record.specs.A0.{a0Table}
-use Rattle.card_record.proofs.Rows.{next, field-by-field, wrong-width, right-width}
+use Rattle.refusal.proofs.Rows.{next}
+use Rattle.card_record.proofs.Rows.{field-by-field, wrong-width, right-width}
 use Rattle.card_record.proofs.a0.A0.fault.Statement.{statement}
 use Rattle.card_record.proofs.a0.A0.fault.Tie as tie
 

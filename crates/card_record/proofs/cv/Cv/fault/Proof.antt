@@ -3,7 +3,8 @@ use mathlib.Core.Path.{_∙_}
 use lib.ListN.{take, drop}
 use borrow.Author.Needs.{needs}
 use Rattle.card_record.specs.Cv.{cvTable}
-use Rattle.card_record.proofs.Rows.{next, table-by-table, wrong-width, right-width}
+use Rattle.refusal.proofs.Rows.{next}
+use Rattle.card_record.proofs.Rows.{table-by-table, wrong-width, right-width}
 use Rattle.card_record.proofs.cv.Cv.fault.Statement.{statement}
 use Rattle.card_record.proofs.cv.Cv.fault.Tie as tie
 

@@ -1,7 +1,7 @@
 -- `card_record::cv::Cv::instalment_right` meets its contract: the branch says whether there is an instalment.
 use borrow.Author.Tests.{not-true, not-false, le-leb, lt-leb}
 use borrow.Author.Needs.{needs}
-use Rattle.card_record.proofs.Told.{told}
+use Rattle.refusal.proofs.Rows.{told}
 use Rattle.card_record.proofs.cv.Cv.instalment_right.Statement.{statement}
 use Rattle.card_record.proofs.cv.Cv.instalment_right.Tie as tie
 

@@ -4,7 +4,8 @@ use mathlib.Core.Path.{_∙_}
 use borrow.Author.Needs.{needs}
 use Rattle.card_record.specs.Cv.{joinedRules}
 use Rattle.card_record.proofs.Told.{ruled}
-use Rattle.card_record.proofs.Rows.{next, rule-by-rule}
+use Rattle.refusal.proofs.Rows.{next}
+use Rattle.card_record.proofs.Rows.{rule-by-rule}
 use Rattle.card_record.proofs.cv.Cv.joined_fault.Statement.{statement}
 use Rattle.card_record.proofs.cv.Cv.joined_fault.Tie as tie
 

@@ -1,6 +1,6 @@
 -- `card_record::cv::Cv::payable_amounts` meets its contract: the branch says whether there is an instalment.
 use borrow.Author.Needs.{needs}
-use Rattle.card_record.proofs.Told.{told}
+use Rattle.refusal.proofs.Rows.{told}
 use Rattle.card_record.proofs.cv.Cv.payable_amounts.Statement.{statement}
 use Rattle.card_record.proofs.cv.Cv.payable_amounts.Tie as tie
 
