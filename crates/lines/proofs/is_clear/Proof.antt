@@ -36,9 +36,9 @@ loop-again c =
     let inside : l .i < length s = omega arith in (
       search needs,
       ⊎-elim
-      (λ w. rw (w .1) (sym (stained (l .clear) s (l .i) inside (w .0 .taken)) ∙ l .inv .1))
-      (λ w. rw (w .1) (sym (clear-on (l .clear) s (l .i) inside (w .0 .left)) ∙ l .inv .1))
-      (c .if1 .came),
+          (λ w. rw (w .1) (sym (stained (l .clear) s (l .i) inside (w .0 .taken)) ∙ l .inv .1))
+          (λ w. rw (w .1) (sym (clear-on (l .clear) s (l .i) inside (w .0 .left)) ∙ l .inv .1))
+          (c .if1 .came),
     )
 
 returns : tie.Need-returns Inv-loop μ-loop
