@@ -9,8 +9,9 @@ use native.Mathlib.Omega.{arith}
 use lib.ListN.{length, getD, take, drop, length-drop, drop-of-length-le}
 use lib.Seq.{drop-cons, drop-drop}
 use Rattle.text.specs.declared.alphabet.Alphabet.{Alphabet}
+use Rattle.text.specs.declared.alphabet.Stray.{Stray}
 use Rattle.text.specs.declared.alphabet.Stray.the-variants.{At, Nowhere}
-use Rattle.text.specs.Alphabet.{allowed, holdsOnly, firstStray}
+use Rattle.text.specs.Alphabet.{allowed, holdsOnly, firstStray, isNowhere}
 
 -- an allowed byte: the search goes on behind it
 pub passed : (a : Alphabet) (s : List ℕ) (i : ℕ) → i < length s → allowed a (getD s i 0) ≡ true →
@@ -65,3 +66,13 @@ pub block-passed : (a : Alphabet) (s : List ℕ) (i n : ℕ) → i + n ≤ lengt
 block-passed a s i n h e =
     let k : i + n - i ≡ n = omega arith in
     over a i n (drop i s) (omega (arith, length-drop i s)) (rw k at e) ∙ ap (firstStray a (i + n)) (drop-drop n i s)
+
+-- a part holds only allowed bytes exactly where the search finds none
+pub nowhere : (a : Alphabet) (i : ℕ) (s : List ℕ) → holdsOnly a s ≡ isNowhere (firstStray a i s)
+unfolding holdsOnly firstStray
+nowhere a i [] = refl
+nowhere a i (b ∷ s) = one (allowed a b) (firstStray a (suc i) s) (nowhere a (suc i) s)
+  where
+    one : (p : Bool) {q : Bool} (rest : Stray) → q ≡ isNowhere rest → p && q ≡ isNowhere (cond p rest (At i))
+    one true rest e = e
+    one false rest e = refl

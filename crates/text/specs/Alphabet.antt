@@ -44,3 +44,7 @@ holdsOnly a (b ∷ s) = allowed a b && holdsOnly a s
 unfoldable pub firstStray : Alphabet → ℕ → List ℕ → Stray
 firstStray a i [] = Nowhere
 firstStray a i (b ∷ s) = cond (allowed a b) (firstStray a (suc i) s) (At i)
+
+abbrev pub isNowhere : Stray → Bool
+isNowhere Nowhere = true
+isNowhere (At i) = false
