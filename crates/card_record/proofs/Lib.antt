@@ -1,5 +1,7 @@
 mod Told
 mod Rows
+mod Pictures
+mod SurelyRight
 pub mod FieldParts
 pub mod CardParts
 pub mod LawOfReading

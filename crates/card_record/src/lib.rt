@@ -8,4 +8,5 @@ pub mod field;
 pub mod kind;
 pub mod l0;
 pub mod l9;
+mod quick;
 pub mod reading;

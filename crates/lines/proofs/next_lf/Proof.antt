@@ -1,6 +1,6 @@
 -- `lines::next_lf` meets its contract. The invariant: searching on from i finds what searching from the start finds.
 use Prim.Native.Nat.{_-_}
-use mathlib.Core.Path.{_≡_, refl, sym, _∙_}
+use mathlib.Core.Path.{_≡_, sym, _∙_}
 use lib.ListN.{length}
 use borrow.Author.Needs.{needs}
 use Rattle.lines.specs.Lines.{nextLf}
