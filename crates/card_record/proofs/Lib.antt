@@ -1,7 +1,5 @@
 mod Told
 mod Rows
-mod Pictures
-mod SurelyRight
 pub mod FieldParts
 pub mod CardParts
 pub mod LawOfReading

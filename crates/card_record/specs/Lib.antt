@@ -6,7 +6,6 @@ pub mod EqualOutside
 pub mod A0
 pub mod L0
 pub mod Cv
-pub mod Quick
 pub mod L9
 pub mod A9
 pub mod Reading

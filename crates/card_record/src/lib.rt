@@ -8,5 +8,4 @@ pub mod field;
 pub mod kind;
 pub mod l0;
 pub mod l9;
-mod quick;
 pub mod reading;

@@ -34,23 +34,6 @@ fn judged(kind: Kind, fault: Fault, numbers: Reading) -> Reading
     }
 }
 
-// The bytes as a sale: the quick way, and the slow way where that does not pass.
-fn read_sale(edition: u64, bytes: &[u8]) -> Reading
-    ensures { λ r. ⌜ r ≡ readAs Kind.Cv edition (now (bytes .entry)) ⌝ }
-{
-    if bytes.len() == Cv::WIDTH {
-        let sale = &bytes[..Cv::WIDTH];
-        if crate::quick::is_right(edition, sale) {
-            return Reading::Cv(crate::quick::numbers(sale));
-        }
-    }
-    judged(
-        Kind::Cv,
-        Cv::fault(edition, bytes),
-        Reading::Cv(Cv::read(bytes)),
-    )
-}
-
 // The bytes as a record of this kind.
 fn read_as(kind: Kind, edition: u64, bytes: &[u8]) -> Reading
     ensures { λ r. ⌜ r ≡ readAs kind edition (now (bytes .entry)) ⌝ }
@@ -66,7 +49,11 @@ fn read_as(kind: Kind, edition: u64, bytes: &[u8]) -> Reading
             L0::fault(edition, bytes),
             Reading::L0(L0::read(bytes)),
         ),
-        Kind::Cv => read_sale(edition, bytes),
+        Kind::Cv => judged(
+            Kind::Cv,
+            Cv::fault(edition, bytes),
+            Reading::Cv(Cv::read(bytes)),
+        ),
         Kind::L9 => judged(
             Kind::L9,
             L9::fault(edition, bytes),

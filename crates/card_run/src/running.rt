@@ -289,7 +289,7 @@ impl Running {
     pub fn feed(self, bytes: &[u8]) -> Running
         ensures { λ r. ⌜ r ≡ fedOf self (now (bytes .entry)) ⌝ }
     {
-        self.took(card_record::reading::read(self.edition, bytes))
+        self.took(card_quick::read(self.edition, bytes))
     }
 
     // Closes the file: no record comes any more.

@@ -31,12 +31,6 @@ judged-requires-2 c κs = search needs
 enum-told-3 : tie.Need-enum-told-3
 enum-told-3 c = search needs
 
-read-sale-requires : tie.Need-read-sale-requires
-read-sale-requires c κs = search needs
-
-enum-told-4 : tie.Need-enum-told-4
-enum-told-4 c = search needs
-
 fault-requires-3 : tie.Need-fault-requires-3
 fault-requires-3 c κs = search needs
 
@@ -46,8 +40,8 @@ read-requires-3 c κs = search needs
 judged-requires-3 : tie.Need-judged-requires-3
 judged-requires-3 c κs = search needs
 
-enum-told-5 : tie.Need-enum-told-5
-enum-told-5 c = search needs
+enum-told-4 : tie.Need-enum-told-4
+enum-told-4 c = search needs
 
 fault-requires-4 : tie.Need-fault-requires-4
 fault-requires-4 c κs = search needs
@@ -57,6 +51,18 @@ read-requires-4 c κs = search needs
 
 judged-requires-4 : tie.Need-judged-requires-4
 judged-requires-4 c κs = search needs
+
+enum-told-5 : tie.Need-enum-told-5
+enum-told-5 c = search needs
+
+fault-requires-5 : tie.Need-fault-requires-5
+fault-requires-5 c κs = search needs
+
+read-requires-5 : tie.Need-read-requires-5
+read-requires-5 c κs = search needs
+
+judged-requires-5 : tie.Need-judged-requires-5
+judged-requires-5 c κs = search needs
 
 returns : tie.Need-returns
 unfolding numbersOf
@@ -68,15 +74,15 @@ returns-2 c = rw (c .before .before .before .enum-told2 .given .1) (rw (c .befor
 
 returns-3 : tie.Need-returns-3
 unfolding numbersOf
-returns-3 c = rw (c .before .enum-told3 .given .1) (c .read-sale .ensures)
+returns-3 c = rw (c .before .before .before .enum-told3 .given .1) (rw (c .before .before .fault3 .ensures, c .before .read3 .ensures) at (c .judged3 .ensures))
 
 returns-4 : tie.Need-returns-4
 unfolding numbersOf
-returns-4 c = rw (c .before .before .before .enum-told4 .given .1) (rw (c .before .before .fault3 .ensures, c .before .read3 .ensures) at (c .judged3 .ensures))
+returns-4 c = rw (c .before .before .before .enum-told4 .given .1) (rw (c .before .before .fault4 .ensures, c .before .read4 .ensures) at (c .judged4 .ensures))
 
 returns-5 : tie.Need-returns-5
 unfolding numbersOf
-returns-5 c = rw (c .before .before .before .enum-told5 .given .1) (rw (c .before .before .fault4 .ensures, c .before .read4 .ensures) at (c .judged4 .ensures))
+returns-5 c = rw (c .before .before .before .enum-told5 .given .1) (rw (c .before .before .fault5 .ensures, c .before .read5 .ensures) at (c .judged5 .ensures))
 
 pub read-as-spec : {M : Type 1} → statement M
 read-as-spec =
@@ -91,15 +97,17 @@ read-as-spec =
     read-requires-2
     judged-requires-2
     enum-told-3
-    read-sale-requires
-    enum-told-4
     fault-requires-3
     read-requires-3
     judged-requires-3
-    enum-told-5
+    enum-told-4
     fault-requires-4
     read-requires-4
     judged-requires-4
+    enum-told-5
+    fault-requires-5
+    read-requires-5
+    judged-requires-5
     returns
     returns-2
     returns-3

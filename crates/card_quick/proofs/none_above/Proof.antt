@@ -1,4 +1,4 @@
--- `card_record::quick::none_above` meets its contract. The invariant: the places passed and those to come pass together exactly where the rows do.
+-- `card_quick::none_above` meets its contract. The invariant: the places passed and those to come pass together exactly where the rows do.
 use Prim.Native.Nat.{_≤_, _<_, _-_}
 use mathlib.Core.Path.{_≡_, refl, sym, _∙_}
 use mathlib.Core.Bool.{_&&_}
@@ -6,10 +6,10 @@ use mathlib.Core.Logic.{⊎-elim}
 use native.Mathlib.Omega.{arith}
 use lib.ListN.{length, drop}
 use borrow.Author.Needs.{needs}
-use Rattle.card_record.specs.Quick.{noneAbove}
-use Rattle.card_record.proofs.Pictures.{above, not-above, rows-end}
-use Rattle.card_record.proofs.quick.none_above.Statement.{statement}
-use Rattle.card_record.proofs.quick.none_above.Tie as tie
+use Rattle.card_quick.specs.Quick.{noneAbove}
+use Rattle.card_quick.proofs.Pictures.{above, not-above, rows-end}
+use Rattle.card_quick.proofs.none_above.Statement.{statement}
+use Rattle.card_quick.proofs.none_above.Tie as tie
 
 abbrev Inv-loop : tie.InvT-loop
 Inv-loop low high none₀ i₀ none i = (i ≤ length low) × (none && noneAbove (drop i low) (drop i high) ≡ noneAbove low high)

@@ -1,9 +1,9 @@
--- `card_record::quick::is_in` meets its contract: the part is that of the field.
+-- `card_quick::is_in` meets its contract: the part is that of the field.
 use mathlib.Core.Path.{_∙_, ap}
 use Rattle.card_record.specs.Content.{inSet}
 use borrow.Author.Needs.{needs}
-use Rattle.card_record.proofs.quick.is_in.Statement.{statement}
-use Rattle.card_record.proofs.quick.is_in.Tie as tie
+use Rattle.card_quick.proofs.is_in.Statement.{statement}
+use Rattle.card_quick.proofs.is_in.Tie as tie
 
 part-requires : tie.Need-part-requires
 part-requires c κs = search needs

@@ -3,9 +3,10 @@
 ghost use mathlib.Core.Path.{_≡_};
 ghost use mathlib.Core.Bool.{_&&_};
 ghost use lib.ListN.{length};
 ghost use Rattle.card_record.specs.Content.{inSet};
 ghost use Rattle.card_record.specs.Field.{partOf};
-ghost use Rattle.card_record.specs.Quick.{
+ghost use Rattle.card_record.specs.Reading.{readingOf};
+ghost use Rattle.card_quick.specs.Quick.{
   noneAbove,
   inPicture,
   valueIn,
@@ -15,9 +16,10 @@ ghost use Rattle.card_record.specs.Quick.{
   amountsIn,
   quickCv,
 };
-use crate::content::ClosedSet;
-use crate::cv::Cv;
-use crate::field::Field;
+use card_record::content::ClosedSet;
+use card_record::cv::Cv;
+use card_record::field::Field;
+use card_record::reading::Reading;
 use totals::amounts::Amounts;
 
 // Whether no byte of one row is above its neighbour in the other. There is no way out before the end, so that the machine can look at many
@@ -60,7 +62,7 @@ fn in_picture(sale: &[u8]) -> bool
 fn is_in(field: Field, set: ClosedSet, edition: u64, sale: &[u8]) -> bool
     ensures { λ r. ⌜ r ≡ inSet set edition (partOf field (now (sale .entry))) ⌝ }
 {
-    crate::content::is_in_set(set, edition, field.part(sale))
+    card_record::content::is_in_set(set, edition, field.part(sale))
 }
 
 // The value of a field of a record, if it is digits.
@@ -92,7 +94,7 @@ fn days_right(sale: &[u8]) -> bool
 }
 
 // Whether a record is surely a right sale.
-pub(crate) fn is_right(edition: u64, sale: &[u8]) -> bool
+fn is_right(edition: u64, sale: &[u8]) -> bool
     requires { ⌜ length (now sale) ≡ 199 ⌝ }
     ensures { λ r. ⌜ r ≡ surelyRight edition (now (sale .entry)) ⌝ }
 {
@@ -114,7 +116,7 @@ fn amounts(gross: Field, discount: Field, net: Field, sale: &[u8]) -> Amounts
 }
 
 // The numbers of a sale that is surely right.
-pub(crate) fn numbers(sale: &[u8]) -> Cv
+fn numbers(sale: &[u8]) -> Cv
     ensures { λ r. ⌜ r ≡ quickCv (now (sale .entry)) ⌝ }
 {
     Cv {
@@ -131,4 +133,17 @@ pub(crate) fn numbers(sale: &[u8]) -> Cv
         ),
         nseq: value(Cv::NSEQ, sale),
     }
+}
+
+// Any bytes as a record, without a line end, under an edition: as `card_record` reads it, and quicker where it is a right sale.
+pub fn read(edition: u64, bytes: &[u8]) -> Reading
+    ensures { λ r. ⌜ r ≡ readingOf edition (now (bytes .entry)) ⌝ }
+{
+    if bytes.len() == Cv::WIDTH {
+        let sale = &bytes[..Cv::WIDTH];
+        if is_right(edition, sale) {
+            return Reading::Cv(numbers(sale));
+        }
+    }
+    card_record::reading::read(edition, bytes)
 }

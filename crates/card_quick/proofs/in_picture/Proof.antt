@@ -1,10 +1,10 @@
--- `card_record::quick::in_picture` meets its contract: the pictures of the code are those of the definition, by computation.
+-- `card_quick::in_picture` meets its contract: the pictures of the code are those of the definition, by computation.
 use mathlib.Core.Path.{_∙_, ap₂}
 use mathlib.Core.Bool.{_&&_}
-use Rattle.card_record.specs.Quick.{least, greatest, inPicture}
+use Rattle.card_quick.specs.Quick.{least, greatest, inPicture}
 use borrow.Author.Needs.{needs}
-use Rattle.card_record.proofs.quick.in_picture.Statement.{statement}
-use Rattle.card_record.proofs.quick.in_picture.Tie as tie
+use Rattle.card_quick.proofs.in_picture.Statement.{statement}
+use Rattle.card_quick.proofs.in_picture.Tie as tie
 
 none-above-requires : tie.Need-none-above-requires
 none-above-requires c κs = search needs

@@ -15,6 +15,7 @@ use Rattle.text.specs.declared.alphabet.Alphabet.{Alphabet}
 use Rattle.text.specs.declared.alphabet.Alphabet.the-variants.{Digits as digits, CardText as cardText}
 use Rattle.text.specs.Alphabet.{allowed, holdsOnly}
 use Rattle.text.specs.Number.{valueOf, valueIfDigits}
+use Rattle.text.specs.Literal.{sameBytes}
 use Rattle.text.specs.Part.{positions}
 use Rattle.text.proofs.Alphabets.{both, both-left, both-right}
 use Rattle.text.proofs.Weights.{if-digits}
@@ -22,19 +23,20 @@ use Rattle.calendar.specs.When.{written, onlyIf, whenRules}
 use Rattle.calendar.specs.Day.{isDay}
 use Rattle.calendar.specs.Time.{isTime}
 use Rattle.pan.specs.CardField.{wellFormed}
 use Rattle.card_record.specs.declared.content.ClosedSet.{ClosedSet}
 use Rattle.card_record.specs.declared.content.ClosedSet.the-variants.{LaunchType, Product, Capture}
 use Rattle.card_record.specs.declared.content.Content.the-variants.{Digits, Text, Card, OneOf}
 use Rattle.card_record.specs.declared.field.Field.{Field}
 use Rattle.card_record.specs.declared.kind.Kind.the-variants.{Cv as kindCv}
+use Rattle.card_record.specs.declared.kind.KindFound.the-variants.{Known}
 use Rattle.card_record.specs.declared.reading.Reading.the-variants.{Cv as cv}
 use Rattle.card_record.specs.Content.{inSet, contentRules}
 use Rattle.card_record.specs.Cv.{cvTable, cvOf}
-use Rattle.card_record.specs.Field.{field, partOf, fieldRules, tableRules, plainNumber, numberIn}
-use Rattle.card_record.specs.Quick.{noneAbove, least, greatest, inPicture, valueIn, setsRight, daysRight, surelyRight, quickCv}
-use Rattle.card_record.specs.Reading.{numbersOf, judgedAs, readAs}
-use Rattle.card_record.proofs.Rows.{right-width}
-use Rattle.card_record.proofs.Pictures.{slice-passes, at-least, at-most, between}
+use Rattle.card_record.specs.Field.{field, partOf, fieldRules, tableRules, plainNumber, numberIn, recordRules}
+use Rattle.card_quick.specs.Quick.{noneAbove, least, greatest, inPicture, valueIn, setsRight, daysRight, surelyRight, quickCv}
+use Rattle.card_record.specs.Kind.{kindNamed, kindOf}
+use Rattle.card_record.specs.Reading.{numbersOf, judgedAs, readFound, readingOf}
+use Rattle.card_quick.proofs.Pictures.{slice-passes, at-least, at-most, between, neither-above}
 
 -- every field of a table is right
 infixr 20 _then_
@@ -95,6 +97,16 @@ module _ (r : List ℕ) (wide : length r ≡ 199) (fits : inPicture r ≡ true) 
       (slice-passes (first - 1) last r greatest below-greatest)
       (both-left (at-least low (positions first last least)) _ k)
       (both-right (at-least low (positions first last least)) _ k)
+
+  -- the kind is the same in both pictures, so it is the sale's
+  is-sale : kindOf r ≡ Known kindCv
+  unfolding least greatest kindNamed sameBytes
+  is-sale =
+      ap kindNamed
+      (sym (neither-above (positions 1 2 least) (positions 1 2 r)
+      (sym (part-length 1 2 least wide-least))
+      (slice-passes 0 2 least r above-least)
+      (slice-passes 0 2 r greatest below-greatest)))
 
   digits-held : (first last : ℕ) → kept-between 48 57 first last ≡ true → holdsOnly digits (positions first last r) ≡ true
   digits-held = held digits 48 57 digit-allowed
@@ -210,11 +222,11 @@ module _ (r : List ℕ) (wide : length r ≡ 199) (fits : inPicture r ≡ true) 
         digits-right 194 199 refl then
         none)
 
--- a sale that passes reads as its numbers
-pub quick-reads : (e : ℕ) (r : List ℕ) → length r ≡ 199 → surelyRight e r ≡ true → cv (quickCv r) ≡ readAs kindCv e r
-unfolding surelyRight numbersOf judgedAs
+-- a sale that passes is read as its numbers
+pub quick-reads : (e : ℕ) (r : List ℕ) → length r ≡ 199 → surelyRight e r ≡ true → cv (quickCv r) ≡ readingOf e r
+unfolding surelyRight recordRules firstBroken numbersOf judgedAs readFound
 quick-reads e r wide sure =
     let fits = both-left (inPicture r) (setsRight e r && daysRight r) sure in
     let rest = both-right (inPicture r) (setsRight e r && daysRight r) sure in
     let none = no-fault r wide fits e (both-left (setsRight e r) (daysRight r) rest) (both-right (setsRight e r) (daysRight r) rest) in
-    rw (sym (right-width e r 199 cvTable wide) ∙ none) (ap cv (same-numbers r wide fits))
+    rw (is-sale r wide fits, eq-eqb (length r) 199 wide, none) (ap cv (same-numbers r wide fits))

@@ -1,12 +1,12 @@
--- `card_record::quick::days_right` meets its contract: each answer is what its call promises.
+-- `card_quick::days_right` meets its contract: each answer is what its call promises.
 use mathlib.Core.Path.{_∙_, ap, ap₂}
 use mathlib.Core.Bool.{_&&_}
 use Rattle.calendar.specs.Day.{isDay}
 use Rattle.calendar.specs.Time.{isTime}
-use Rattle.card_record.specs.Quick.{daysRight}
+use Rattle.card_quick.specs.Quick.{daysRight}
 use borrow.Author.Needs.{needs}
-use Rattle.card_record.proofs.quick.days_right.Statement.{statement}
-use Rattle.card_record.proofs.quick.days_right.Tie as tie
+use Rattle.card_quick.proofs.days_right.Statement.{statement}
+use Rattle.card_quick.proofs.days_right.Tie as tie
 
 value-requires : tie.Need-value-requires
 value-requires c κs = search needs

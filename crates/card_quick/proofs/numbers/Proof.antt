@@ -1,7 +1,7 @@
--- `card_record::quick::numbers` meets its contract: each number is what `value` promises of its field.
+-- `card_quick::numbers` meets its contract: each number is what `value` promises of its field.
 use borrow.Author.Needs.{needs}
-use Rattle.card_record.proofs.quick.numbers.Statement.{statement}
-use Rattle.card_record.proofs.quick.numbers.Tie as tie
+use Rattle.card_quick.proofs.numbers.Statement.{statement}
+use Rattle.card_quick.proofs.numbers.Tie as tie
 
 value-requires : tie.Need-value-requires
 value-requires c κs = search needs

@@ -1,11 +1,11 @@
--- `card_record::quick::value` meets its contract: the part is that of the field.
+-- `card_quick::value` meets its contract: the part is that of the field.
 use Prim.Native.Nat.{ℕ}
 use mathlib.Core.Path.{_∙_, ap}
 use mathlib.Core.List.{List}
 use Rattle.text.specs.Number.{valueIfDigits}
 use borrow.Author.Needs.{needs}
-use Rattle.card_record.proofs.quick.value.Statement.{statement}
-use Rattle.card_record.proofs.quick.value.Tie as tie
+use Rattle.card_quick.proofs.value.Statement.{statement}
+use Rattle.card_quick.proofs.value.Tie as tie
 
 part-requires : tie.Need-part-requires
 part-requires c κs = search needs

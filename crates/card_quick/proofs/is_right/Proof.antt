@@ -1,11 +1,11 @@
--- `card_record::quick::is_right` meets its contract: the test of the pictures picks the case.
+-- `card_quick::is_right` meets its contract: the test of the pictures picks the case.
 use mathlib.Core.Path.{sym, _∙_, ap₂}
 use mathlib.Core.Bool.{_&&_}
 use borrow.Author.Tests.{not-true, not-false}
-use Rattle.card_record.specs.Quick.{surelyRight}
+use Rattle.card_quick.specs.Quick.{surelyRight}
 use borrow.Author.Needs.{needs}
-use Rattle.card_record.proofs.quick.is_right.Statement.{statement}
-use Rattle.card_record.proofs.quick.is_right.Tie as tie
+use Rattle.card_quick.proofs.is_right.Statement.{statement}
+use Rattle.card_quick.proofs.is_right.Tie as tie
 
 in-picture-requires : tie.Need-in-picture-requires
 in-picture-requires c κs = search needs

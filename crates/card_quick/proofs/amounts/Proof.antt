@@ -1,7 +1,7 @@
--- `card_record::quick::amounts` meets its contract: each amount is what `value` promises of its field.
+-- `card_quick::amounts` meets its contract: each amount is what `value` promises of its field.
 use borrow.Author.Needs.{needs}
-use Rattle.card_record.proofs.quick.amounts.Statement.{statement}
-use Rattle.card_record.proofs.quick.amounts.Tie as tie
+use Rattle.card_quick.proofs.amounts.Statement.{statement}
+use Rattle.card_quick.proofs.amounts.Tie as tie
 
 value-requires : tie.Need-value-requires
 value-requires c κs = search needs

@@ -1,7 +1,7 @@
 -- Laws of rows of bytes compared place by place: what one place does, that parts of the rows compare alike, and that a row between two others
 -- holds only what an alphabet allows between the least and the greatest of these.
 use Prim.Native.Nat.{ℕ, zero, suc, _+_, _≤_, _<_}
-use mathlib.Core.Path.{_≡_, refl}
+use mathlib.Core.Path.{_≡_, refl, ap₂}
 use mathlib.Core.List.{List, [], _∷_}
 use mathlib.Core.Bool.{Bool, true, false, _&&_}
 use native.Mathlib.Numerals.{add-one}
@@ -13,7 +13,7 @@ use borrow.Author.Tests.{le-leb, lt-leb, leb-true}
 use Rattle.text.specs.declared.alphabet.Alphabet.{Alphabet}
 use Rattle.text.specs.Alphabet.{allowed, holdsOnly}
 use Rattle.text.proofs.Alphabets.{both, both-left, both-right}
-use Rattle.card_record.specs.Quick.{noneAbove}
+use Rattle.card_quick.specs.Quick.{noneAbove}
 
 -- a byte above its neighbour: the rows from there on do not pass, whatever those before it are
 pub above : (p : Bool) (a b : List ℕ) (i : ℕ) → i < length a → i < length b → getD b i 0 < getD a i 0 →
@@ -86,3 +86,15 @@ module _ (a : Alphabet) (low high : ℕ) (all : (b : ℕ) → low ≤ b → b �
       (both-right (leb b y) (noneAbove s h) q)
       (both-right (leb low x) (at-least low l) m)
       (both-right (leb y high) (at-most high h) n))
+
+-- rows of one length of which neither is above the other are equal
+pub neither-above : (a b : List ℕ) → length a ≡ length b → noneAbove a b ≡ true → noneAbove b a ≡ true → a ≡ b
+unfolding noneAbove
+neither-above [] [] e p q = refl
+neither-above [] (y ∷ b) e p q = absurd (omega arith)
+neither-above (x ∷ a) [] e p q = absurd (omega arith)
+neither-above (x ∷ a) (y ∷ b) e p q =
+    let up = leb-true x y (both-left (leb x y) (noneAbove a b) p) in
+    let down = leb-true y x (both-left (leb y x) (noneAbove b a) q) in
+    ap₂ _∷_ (omega arith)
+    (neither-above a b (omega arith) (both-right (leb x y) (noneAbove a b) p) (both-right (leb y x) (noneAbove b a) q))

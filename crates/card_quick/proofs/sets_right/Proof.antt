@@ -1,11 +1,11 @@
--- `card_record::quick::sets_right` meets its contract: each answer is what its call promises.
+-- `card_quick::sets_right` meets its contract: each answer is what its call promises.
 use mathlib.Core.Path.{_∙_, ap, ap₂}
 use mathlib.Core.Bool.{_&&_}
 use Rattle.pan.specs.CardField.{wellFormed}
-use Rattle.card_record.specs.Quick.{setsRight}
+use Rattle.card_quick.specs.Quick.{setsRight}
 use borrow.Author.Needs.{needs}
-use Rattle.card_record.proofs.quick.sets_right.Statement.{statement}
-use Rattle.card_record.proofs.quick.sets_right.Tie as tie
+use Rattle.card_quick.proofs.sets_right.Statement.{statement}
+use Rattle.card_quick.proofs.sets_right.Tie as tie
 
 is-in-requires : tie.Need-is-in-requires
 is-in-requires c κs = search needs
