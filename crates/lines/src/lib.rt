@@ -1,6 +1,5 @@
 // The cut of a file's bytes into pieces at each LF.
 ghost use mathlib.Core.Path.{_≡_};
-ghost use lib.ListN.{length};
 ghost use Rattle.lines.specs.Lines.{noLf, nextLf, endsInCr, withoutLast};
 
 pub enum Found {
@@ -8,17 +7,16 @@ pub enum Found {
     Nowhere,
 }
 
-// How many bytes are looked at together.
-const BLOCK: usize = 32;
+// How many bytes are looked at together. The lines of a sale and of a payroll record, 201 and 242 bytes, end right behind whole blocks of 40.
+const BLOCK: usize = 40;
 
 // Whether a block holds no LF. There is no way out before its end, so that the machine can look at many bytes at once.
 fn is_clear(block: &[u8]) -> bool
-    requires { ⌜ length (now block) ≡ 32 ⌝ }
     ensures { λ r. ⌜ r ≡ noLf (now (block .entry)) ⌝ }
 {
     let mut clear = true;
     let mut i = 0;
-    while i < BLOCK {
+    while i < block.len() {
         if block[i] == b'\n' {
             clear = false;
         }

@@ -2,7 +2,7 @@
 use Prim.Native.Nat.{_-_}
 use mathlib.Core.Path.{_≡_, refl, sym, _∙_}
 use native.Mathlib.Omega.{arith}
-use lib.ListN.{length, length-take, length-drop}
+use lib.ListN.{length}
 use borrow.Author.Needs.{needs}
 use borrow.Author.Tests.{not-false}
 use Rattle.lines.specs.Lines.{nextLf}
@@ -38,7 +38,7 @@ part-is-clear-end : tie.Need-part-is-clear-end Inv-loop μ-loop
 part-is-clear-end c = search needs
 
 is-clear-requires : tie.Need-is-clear-requires Inv-loop μ-loop
-is-clear-requires c κs = simp (length-take, length-drop) (omega arith)
+is-clear-requires c κs = search needs
 
 returns-2 : tie.Need-returns-2 Inv-loop μ-loop
 returns-2 c = c .before .before .before .before .loop .inv
@@ -53,7 +53,7 @@ loop-again : tie.Need-loop-again Inv-loop μ-loop
 loop-again c =
     let l = c .before .before .before .before .loop in
     let clear = sym (c .before .is-clear .ensures) ∙ not-false _ (c .if2 .left) in
-    sym (block-passed _ (l .i) 32 (omega arith) clear) ∙ l .inv
+    sym (block-passed _ (l .i) 40 (omega arith) clear) ∙ l .inv
 
 returns-3 : tie.Need-returns-3 Inv-loop μ-loop
 returns-3 c = c .before .loop .inv
