@@ -1,10 +1,10 @@
 -- `card_quick::days_right` meets its contract: each answer is what its call promises.
-use mathlib.Core.Path.{_∙_, ap, ap₂}
-use mathlib.Core.Bool.{_&&_}
+use mathlib.Core.Path.{_∙_, ap}
 use Rattle.calendar.specs.Day.{isDay}
 use Rattle.calendar.specs.Time.{isTime}
 use Rattle.card_quick.specs.Quick.{daysRight}
 use borrow.Author.Needs.{needs}
+use Rattle.card_quick.proofs.Answers.{together}
 use Rattle.card_quick.proofs.days_right.Statement.{statement}
 use Rattle.card_quick.proofs.days_right.Tie as tie
 
@@ -38,10 +38,8 @@ returns c =
     let c3 = c .before .before in
     let c2 = c3 .before .before in
     let c1 = c2 .before .before in
-    c .both2 .ensures ∙
-    ap₂ _&&_ (c1 .is-day .ensures ∙ ap isDay (c1 .before .value .ensures))
-    (c .before .both .ensures ∙
-    ap₂ _&&_ (c2 .is-time .ensures ∙ ap isTime (c2 .before .value2 .ensures))
+    together (c .both2 .ensures) (c1 .is-day .ensures ∙ ap isDay (c1 .before .value .ensures))
+    (together (c .before .both .ensures) (c2 .is-time .ensures ∙ ap isTime (c2 .before .value2 .ensures))
     (c3 .is-day2 .ensures ∙ ap isDay (c3 .before .value3 .ensures)))
 
 pub days-right-spec : {M : Type 1} → statement M

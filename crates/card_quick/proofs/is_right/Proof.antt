@@ -1,9 +1,9 @@
 -- `card_quick::is_right` meets its contract: the test of the pictures picks the case.
-use mathlib.Core.Path.{sym, _∙_, ap₂}
-use mathlib.Core.Bool.{_&&_}
+use mathlib.Core.Path.{sym, _∙_}
 use borrow.Author.Tests.{not-true, not-false}
 use Rattle.card_quick.specs.Quick.{surelyRight}
 use borrow.Author.Needs.{needs}
+use Rattle.card_quick.proofs.Answers.{together}
 use Rattle.card_quick.proofs.is_right.Statement.{statement}
 use Rattle.card_quick.proofs.is_right.Tie as tie
 
@@ -28,7 +28,7 @@ unfolding surelyRight
 returns-2 c =
     let tested = c .before .before .before in
     rw (sym (tested .before .in-picture .ensures) ∙ not-false _ (tested .if1 .left))
-    (c .both .ensures ∙ ap₂ _&&_ (c .before .before .sets-right .ensures) (c .before .days-right .ensures))
+    (together (c .both .ensures) (c .before .before .sets-right .ensures) (c .before .days-right .ensures))
 
 pub is-right-spec : {M : Type 1} → statement M
 is-right-spec =

@@ -1,9 +1,9 @@
 -- `card_quick::sets_right` meets its contract: each answer is what its call promises.
-use mathlib.Core.Path.{_∙_, ap, ap₂}
-use mathlib.Core.Bool.{_&&_}
+use mathlib.Core.Path.{_∙_, ap}
 use Rattle.pan.specs.CardField.{wellFormed}
 use Rattle.card_quick.specs.Quick.{setsRight}
 use borrow.Author.Needs.{needs}
+use Rattle.card_quick.proofs.Answers.{together}
 use Rattle.card_quick.proofs.sets_right.Statement.{statement}
 use Rattle.card_quick.proofs.sets_right.Tie as tie
 
@@ -36,12 +36,9 @@ unfolding setsRight
 returns c =
     let c4 = c .before .before .before in
     let c1 = c4 .before .before .before in
-    c .both3 .ensures ∙
-    ap₂ _&&_ (c1 .before .is-in .ensures)
-    (c .before .both2 .ensures ∙
-    ap₂ _&&_ (c1 .is-in2 .ensures)
-    (c .before .before .both .ensures ∙
-    ap₂ _&&_ (c4 .before .before .is-in3 .ensures)
+    together (c .both3 .ensures) (c1 .before .is-in .ensures)
+    (together (c .before .both2 .ensures) (c1 .is-in2 .ensures)
+    (together (c .before .before .both .ensures) (c4 .before .before .is-in3 .ensures)
     (c4 .well-formed .ensures ∙ ap wellFormed (c4 .before .part .ensures))))
 
 pub sets-right-spec : {M : Type 1} → statement M
