@@ -8,7 +8,7 @@ use lines::Found;
 use refusal::Cause;
 
 // Takes the piece before an LF: a record, where a CR ends it.
-fn take_line(state: Running, piece: &[u8]) -> Running
+pub fn take_line(state: Running, piece: &[u8]) -> Running
     ensures { λ r. ⌜ r ≡ lineOf state (now (piece .entry)) ⌝ }
 {
     if lines::ends_in_cr(piece) {
@@ -18,7 +18,7 @@ fn take_line(state: Running, piece: &[u8]) -> Running
 }
 
 // What is left has no line end: 13 behind A9, else 3.
-fn no_line_end(state: Running) -> Running
+pub fn no_line_end(state: Running) -> Running
     ensures { λ r. ⌜ r ≡ unendedOf state ⌝ }
 {
     let stage = state.stage;

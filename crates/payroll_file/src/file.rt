@@ -25,7 +25,7 @@ fn no_line_end(state: Running) -> Running
 }
 
 // Takes the piece before an LF: a record, where a CR ends it.
-fn take_line(state: Running, piece: &[u8]) -> Running
+pub fn take_line(state: Running, piece: &[u8]) -> Running
     ensures { λ r. ⌜ r ≡ lineOf state (now (piece .entry)) ⌝ }
 {
     if lines::ends_in_cr(piece) {
@@ -63,7 +63,7 @@ fn answer_before_trailer(state: Running, rest: &[u8]) -> PayrollAnswer
 }
 
 // The answer of a state, with what is left behind the last LF.
-fn answer_with_rest(state: Running, rest: &[u8]) -> PayrollAnswer
+pub fn answer_with_rest(state: Running, rest: &[u8]) -> PayrollAnswer
     ensures { λ r. ⌜ r ≡ endOf state (now (rest .entry)) ⌝ }
 {
     let stage = state.stage;

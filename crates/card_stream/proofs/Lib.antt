@@ -1,0 +1,3 @@
+pub mod NoFurther
+pub mod Ends
+pub mod InChunks

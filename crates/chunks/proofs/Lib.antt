@@ -1,0 +1,4 @@
+pub mod Kept
+pub mod Held
+pub mod Streams
+pub mod Pieces
