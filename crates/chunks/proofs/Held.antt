@@ -11,6 +11,7 @@ use lib.Dec.{leb}
 use borrow.Author.Tests.{leb-true, leb-false}
 use Rattle.chunks.specs.declared.Unfinished.{Unfinished}
 use Rattle.chunks.specs.Unfinished.{oneMore, keptWith, keptOf, heldBy, holding}
+use Rattle.chunks.proofs.Kept.{one-longer}
 
 -- what it was made to hold
 pub held-back : (s : List ℕ) → heldBy (holding s) ≡ s
@@ -19,9 +20,6 @@ held-back s = take-append-seam s (replicate (242 - length s) 0)
 -- the buffer keeps its length
 pub room-length : (s : List ℕ) → length s ≤ 242 → length (holding s .bytes) ≡ 242
 room-length s l = length-append s (replicate (242 - length s) 0) ∙ omega (arith, length-replicate {A = ℕ} (242 - length s) 0)
-
-one-longer : (h : List ℕ) (b : ℕ) → length (oneMore h b) ≡ min (length h) 241 + 1
-one-longer h b = length-append (take 241 h) (b ∷ []) ∙ omega (arith, length-take 241 h)
 
 -- a byte more where there is room
 where-room : (h : List ℕ) (b : ℕ) → length h ≤ 241 → set (holding h .bytes) (min (length h) 241) b ≡ holding (oneMore h b) .bytes

@@ -1,5 +1,5 @@
 -- Laws of what is kept of a piece: part by part as at once, all of a short piece, and of a long one its front and its last byte.
-use Prim.Native.Nat.{ℕ, _+_, _≤_, _<_}
+use Prim.Native.Nat.{ℕ, _+_, _≤_, _<_, min}
 use mathlib.Core.Path.{_≡_, refl, sym, _∙_, ap}
 use mathlib.Core.List.{List, [], _∷_, _++_, append-nil, append-assoc}
 use mathlib.Core.Bool.{Bool, true, false}
@@ -38,14 +38,17 @@ kept-some x h [] = omega arith
 kept-some x h (b ∷ s) = kept-some x (take 240 h ++ (b ∷ [])) s
 
 -- and never more
-pub kept-length : (h s : List ℕ) → length h ≤ 242 → length (keptWith h s) ≤ 242
+pub one-longer : (h : List ℕ) (b : ℕ) → length (oneMore h b) ≡ min (length h) 241 + 1
+one-longer h b = length-append (take 241 h) (b ∷ []) ∙ omega (arith, length-take 241 h)
+
+pub kept-exactly : (h s : List ℕ) → length h ≤ 242 → length (keptWith h s) ≡ min (length h + length s) 242
 unfolding keptWith
-kept-length h [] l = l
-kept-length h (b ∷ s) l = kept-length (oneMore h b) s (omega (arith, length-append (take 241 h) (b ∷ []), length-take 241 h))
+kept-exactly h [] l = omega arith
+kept-exactly h (b ∷ s) l = kept-exactly (oneMore h b) s (omega (arith, one-longer h b)) ∙ omega (arith, one-longer h b)
 
 -- what is kept of a piece is kept of what is kept of it, and as much behind it as behind the piece
 pub kept-again : (s : List ℕ) → keptOf (keptOf s) ≡ keptOf s
-kept-again s = kept-all [] (keptOf s) (omega (arith, kept-length [] s (omega arith)))
+kept-again s = kept-all [] (keptOf s) (omega (arith, kept-exactly [] s (omega arith)))
 
 pub kept-behind : (a b : List ℕ) → keptOf (keptOf a ++ b) ≡ keptOf (a ++ b)
 kept-behind a b = kept-append [] (keptOf a) b ∙ ap (λ h. keptWith h b) (kept-again a) ∙ sym (kept-append [] a b)

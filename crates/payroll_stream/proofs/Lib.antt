@@ -1,0 +1,2 @@
+pub mod NoFurther
+pub mod InChunks
