@@ -20,6 +20,9 @@ pub enum Loaded {
     TooLong,
 }
 
+// More reads than any file needs, so that a loop of reads is counted.
+pub const MOST_READS: u64 = 1_152_921_504_606_846_976;
+
 // One read.
 pub fn read_some(fd: i32, free: &mut [u8]) -> Got
     ensures { λ r. ⌜ gotWithin (length (now (free .entry))) r ⌝ }

@@ -1,0 +1,2 @@
+pub mod Edition
+pub mod Masking
