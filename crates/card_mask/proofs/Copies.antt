@@ -1,16 +1,15 @@
--- A copy that is masked piece by piece from the front: what stands before a place is done, what stands behind it is still the copy.
+-- Bytes that are masked piece by piece from the front: what stands before a place is done, what stands behind it is as it was.
 use Prim.Native.Nat.{ℕ, suc, _+_, _-_, _≤_}
-use mathlib.Core.Path.{_≡_, refl, sym, _∙_, ap, subst}
+use mathlib.Core.Path.{_≡_, refl, sym, _∙_, ap, ap₂}
 use mathlib.Core.List.{List, [], _∷_, _++_, append-assoc}
 use native.Mathlib.Omega.{arith}
 use lib.ListN.{length, take, drop, length-append, length-drop, take-append-drop, drop-of-length-le}
-use lib.Seq.{length-take-le, take-take, drop-at, drop-append-le, drop-append-add, take-append-add, drop-drop}
-use Rattle.text.proofs.Parts.{drop-take}
+use lib.Seq.{length-take-le, take-at, drop-at, drop-drop}
 use Rattle.lines.specs.declared.Found.the-variants.{At, Nowhere}
-use Rattle.lines.specs.Lines.{lf, cut, rejoined, nextLf}
+use Rattle.lines.specs.Lines.{Lines, lf, cut, rejoined, nextLf}
 use Rattle.lines.proofs.Search.{split}
 use Rattle.lines.proofs.Cuts.{cut-at, at-inside, cut-nowhere}
-use Rattle.card_mask.specs.Masked.{maskedPiece, maskedFile}
+use Rattle.card_mask.specs.Masked.{maskedPiece, maskedFile, finishedIn, MasksLines}
 use Rattle.card_mask.proofs.Pieces.{piece-length}
 
 -- at an LF that was found, the bytes go on with it
@@ -41,75 +40,72 @@ pub nothing-left : (at : ℕ) (s : List ℕ) → length s ≤ at → maskedFile 
 unfolding rejoined cut
 nothing-left at s h = rw (drop-of-length-le s h)
 
--- of an output that was the copy out₀ of a file, the bytes before a place are masked, and those behind it are as they were
-pub record Sofar (file out₀ : List ℕ) (at : ℕ) (out : List ℕ) : Type 0 where
-  pub in-file : at ≤ length file
-  pub same-length : length out ≡ length out₀
-  pub behind : drop at out ≡ drop at out₀
-  pub done : take at out ++ maskedFile (drop at file) ≡ maskedFile file
+-- and how many bytes the finished lines of what is left take
+first-finished : (at : ℕ) (s : List ℕ) (e : ℕ) → nextLf at s ≡ At e → at + finishedIn (drop at s) ≡ (e + 1) + finishedIn (drop (e + 1) s)
+unfolding rejoined
+first-finished at s e q =
+    let i = at-inside at s e q in
+    let left : length (drop at s) ≡ length s - at = length-drop at s in
+    let piece : length (take (e - at) (drop at s)) ≡ e - at = length-take-le (e - at) (drop at s) (omega arith) in
+    let next = rejoined (cut (drop (e + 1) s) .pieces) [] in
+    let both : finishedIn (drop at s) ≡ length (take (e - at) (drop at s)) + suc (length next) =
+    ap (λ (ls : Lines). length (rejoined (ls .pieces) [])) (cut-at at s e q) ∙ length-append (take (e - at) (drop at s)) (lf ∷ next) in
+    omega arith
 
-module _ (file out₀ : List ℕ) (fits : length file ≤ length out₀) (copied : take (length file) out₀ ≡ file) where
-  pub begun : Sofar file out₀ 0 out₀
-  begun = record { in-file = omega arith; same-length = refl; behind = refl; done = refl }
+-- nothing of what is left is finished: there is no LF, or no byte
+pub none-finished : (at : ℕ) (s : List ℕ) → nextLf at s ≡ Nowhere → finishedIn (drop at s) ≡ 0
+unfolding rejoined
+none-finished at s q = rw (cut-nowhere at s q)
 
-  -- a part of the copy is the file's
-  same-there : (a b : ℕ) → a ≤ b → b ≤ length file → take (b - a) (drop a out₀) ≡ take (b - a) (drop a file)
-  same-there a b h k =
-      sym (drop-take a b out₀ h) ∙ ap (drop a) (sym (take-take b (length file) out₀ k) ∙ ap (take b) copied) ∙ drop-take a b file h
+pub nothing-finished : (at : ℕ) (s : List ℕ) → length s ≤ at → finishedIn (drop at s) ≡ 0
+unfolding rejoined cut
+nothing-finished at s h = rw (drop-of-length-le s h)
 
-  pub piece-there : (at e : ℕ) (out : List ℕ) → Sofar file out₀ at out → at ≤ e → e ≤ length file → take (e - at) (drop at out) ≡ take (e - at) (drop at file)
-  piece-there at e out w h k = ap (take (e - at)) (w .behind) ∙ same-there at e h k
+-- bytes that are masked from the front: before a place they are done, and from there on they are as they were
+pub record Sofar (bytes₀ : List ℕ) (at : ℕ) (bytes : List ℕ) : Type 0 where
+  pub inside : at ≤ length bytes
+  pub same-length : length bytes ≡ length bytes₀
+  pub done : take at bytes ++ maskedFile (drop at bytes) ≡ maskedFile bytes₀
+  pub counted : at + finishedIn (drop at bytes) ≡ finishedIn bytes₀
 
-  -- what lies further behind is the copy too
-  further : (at b : ℕ) (out : List ℕ) → Sofar file out₀ at out → at ≤ b → drop b out ≡ drop b out₀
-  further at b out w h =
-      let far : at + (b - at) ≡ b = omega arith in
-      sym (drop-drop (b - at) at out ∙ ap (λ (n : ℕ). drop n out) far) ∙ ap (drop (b - at)) (w .behind) ∙
-      drop-drop (b - at) at out₀ ∙ ap (λ (n : ℕ). drop n out₀) far
+pub begun : (bytes : List ℕ) → Sofar bytes 0 bytes
+begun bytes = record { inside = omega arith; same-length = refl; done = refl; counted = omega arith }
 
-  -- with the piece before an LF masked, and the LF passed
-  pub passed : (at e : ℕ) (out : List ℕ) → Sofar file out₀ at out → nextLf at file ≡ At e →
-      Sofar file out₀ (e + 1) (take at out ++ (maskedPiece (take (e - at) (drop at file)) ++ drop e out))
-  passed at e out w q =
-      let i = at-inside at file e q in
-      let m = maskedPiece (take (e - at) (drop at file)) in
-      let p = take at out ++ m in
-      let front : length (take at out) ≡ at = length-take-le at out (omega (arith, i .0, i .1, w .same-length)) in
-      let left : length (drop at file) ≡ length file - at = length-drop at file in
-      let piece : length m ≡ e - at = piece-length (take (e - at) (drop at file)) ∙ length-take-le (e - at) (drop at file) (omega arith) in
-      let wide : length p ≡ e = length-append (take at out) m ∙ omega arith in
-      let after : take at out ++ (m ++ drop e out) ≡ p ++ drop e out = sym (append-assoc (take at out) m (drop e out)) in
-      let past : length p + 1 ≡ e + 1 = ap (λ (n : ℕ). n + 1) wide in
-      let one : (e + 1) - e ≡ 1 = omega arith in
-      let lf-there : take 1 (drop e out) ≡ lf ∷ [] =
-      ap (take 1) (further at e out w (i .0)) ∙
-      subst (λ (n : ℕ). take n (drop e out₀) ≡ take n (drop e file)) one (same-there e (e + 1) (omega arith) (omega arith)) ∙
-      ap (take 1) (at-lf at file e q) in
-      record {
-        in-file = omega arith;
-        same-length =
-            ap length after ∙ length-append p (drop e out) ∙
-            (let rest = length-drop e out in
-            omega (arith, w .same-length));
-        behind =
-            ap (drop (e + 1)) after ∙ sym (ap (λ (n : ℕ). drop n (p ++ drop e out)) past) ∙ drop-append-add p (drop e out) 1 ∙ drop-drop 1 e out ∙
-            further at (e + 1) out w (omega arith);
-        done =
-            ap (λ (l : List ℕ). l ++ maskedFile (drop (e + 1) file))
-            (ap (take (e + 1)) after ∙ sym (ap (λ (n : ℕ). take n (p ++ drop e out)) past) ∙ take-append-add p (drop e out) 1 ∙
-            ap (λ (l : List ℕ). p ++ l) lf-there) ∙
-            append-assoc p (lf ∷ []) (maskedFile (drop (e + 1) file)) ∙
-            append-assoc (take at out) m (lf ∷ maskedFile (drop (e + 1) file)) ∙
-            ap (λ (l : List ℕ). take at out ++ l) (sym (first-masked at file e q)) ∙
-            w .done;
-      }
+-- with the piece before an LF masked, and the LF passed
+pub passed : (bytes₀ : List ℕ) (at e : ℕ) (bytes : List ℕ) → Sofar bytes₀ at bytes → nextLf at bytes ≡ At e →
+    Sofar bytes₀ (e + 1) (take at bytes ++ (maskedPiece (take (e - at) (drop at bytes)) ++ drop e bytes))
+passed bytes₀ at e bytes w q =
+    let i = at-inside at bytes e q in
+    let m = maskedPiece (take (e - at) (drop at bytes)) in
+    let p = take at bytes ++ m in
+    let front : length (take at bytes) ≡ at = length-take-le at bytes (w .inside) in
+    let left : length (drop at bytes) ≡ length bytes - at = length-drop at bytes in
+    let piece : length m ≡ e - at = piece-length (take (e - at) (drop at bytes)) ∙ length-take-le (e - at) (drop at bytes) (omega arith) in
+    let wide : length (p ++ (lf ∷ [])) ≡ e + 1 = length-append p (lf ∷ []) ∙ ap (λ (n : ℕ). n + 1) (length-append (take at bytes) m ∙ omega arith) in
+    let on = drop (e + 1) bytes in
+    let after : take at bytes ++ (m ++ drop e bytes) ≡ (p ++ (lf ∷ [])) ++ on =
+    sym (append-assoc (take at bytes) m (drop e bytes)) ∙ ap (λ (l : List ℕ). p ++ l) (at-lf at bytes e q) ∙ sym (append-assoc p (lf ∷ []) on) in
+    let rest : length on ≡ length bytes - (e + 1) = length-drop (e + 1) bytes in
+    let before : take (e + 1) (take at bytes ++ (m ++ drop e bytes)) ≡ p ++ (lf ∷ []) = ap (take (e + 1)) after ∙ take-at (p ++ (lf ∷ [])) on (e + 1) wide in
+    let behind : drop (e + 1) (take at bytes ++ (m ++ drop e bytes)) ≡ on = ap (drop (e + 1)) after ∙ drop-at (p ++ (lf ∷ [])) on (e + 1) wide in
+    let whole : length (take at bytes ++ (m ++ drop e bytes)) ≡ length bytes = ap length after ∙ length-append (p ++ (lf ∷ [])) on ∙ omega arith in
+    record {
+      inside = omega arith;
+      same-length = whole ∙ w .same-length;
+      done =
+          ap₂ (λ (a b : List ℕ). a ++ maskedFile b) before behind ∙
+          append-assoc p (lf ∷ []) (maskedFile on) ∙
+          append-assoc (take at bytes) m (lf ∷ maskedFile on) ∙
+          ap (λ (l : List ℕ). take at bytes ++ l) (sym (first-masked at bytes e q)) ∙
+          w .done;
+      counted = ap (λ (l : List ℕ). (e + 1) + finishedIn l) behind ∙ sym (first-finished at bytes e q) ∙ w .counted;
+    }
 
-  -- where nothing of what is left is masked, the copy is done
-  pub finished : (at : ℕ) (out : List ℕ) → Sofar file out₀ at out → maskedFile (drop at file) ≡ drop at file → out ≡ maskedFile file ++ drop (length file) out₀
-  finished at out w e =
-      let tail = drop (length file) out₀ in
-      let whole : out₀ ≡ file ++ tail = sym (take-append-drop (length file) out₀) ∙ ap (λ (l : List ℕ). l ++ tail) copied in
-      sym (take-append-drop at out) ∙
-      ap (λ (l : List ℕ). take at out ++ l) (w .behind ∙ ap (drop at) whole ∙ drop-append-le at file tail (w .in-file)) ∙
-      sym (append-assoc (take at out) (drop at file) tail) ∙
-      ap (λ (l : List ℕ). l ++ tail) (ap (λ (l : List ℕ). take at out ++ l) (sym e) ∙ w .done)
+-- where nothing of what is left is masked or finished, all is done
+pub finished : (bytes₀ : List ℕ) (at : ℕ) (bytes : List ℕ) → Sofar bytes₀ at bytes → maskedFile (drop at bytes) ≡ drop at bytes → finishedIn (drop at bytes) ≡ 0 →
+    MasksLines bytes₀ at bytes
+finished bytes₀ at bytes w e z =
+    record {
+      counts = (let n = w .counted in omega arith);
+      leaves = sym (take-append-drop at bytes) ∙ ap (λ (l : List ℕ). take at bytes ++ l) (sym e) ∙ w .done;
+    }

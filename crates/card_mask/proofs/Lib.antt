@@ -1,3 +1,4 @@
 pub mod Pieces
 pub mod Copies
 pub mod Answers
+pub mod InChunks

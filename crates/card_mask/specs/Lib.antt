@@ -1,2 +1,3 @@
 pub mod Masked
 pub mod Mask
+pub mod InChunks

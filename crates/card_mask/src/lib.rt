@@ -2,8 +2,8 @@
 ghost use mathlib.Core.Path.{_≡_};
 ghost use mathlib.Core.List.{_++_};
 ghost use Prim.Native.Nat.{_≤_};
-ghost use lib.ListN.{length, take, drop};
-ghost use Rattle.card_mask.specs.Masked.{maskedPiece, maskedFile};
+ghost use lib.ListN.{length, drop};
+ghost use Rattle.card_mask.specs.Masked.{maskedPiece, maskedFile, MasksLines};
 ghost use Rattle.card_mask.specs.Mask.{maskAnswer, Masks};
 use card_record::card_part::CardPart;
 use card_run::answer::CardAnswer;
@@ -11,10 +11,9 @@ use lines::Found;
 use refusal::Cause;
 use refusal::Refusal;
 
-// Masks the card's part in the copy of one piece, and nothing else.
-fn mask_piece(piece: &[u8], copy: &mut [u8])
-    requires { ⌜ now copy ≡ now piece ⌝ }
-    ensures { λ _. ⌜ now (copy .exit) ≡ maskedPiece (now (piece .entry)) ⌝ }
+// Masks the card's part of one piece, and nothing else.
+fn mask_piece(piece: &mut [u8])
+    ensures { λ _. ⌜ now (piece .exit) ≡ maskedPiece (now (piece .entry)) ⌝ }
 {
     if !lines::ends_in_cr(piece) {
         return;
@@ -22,22 +21,22 @@ fn mask_piece(piece: &[u8], copy: &mut [u8])
     let CardPart::From(from) = card_record::card_part::card_part(lines::without_last(piece)) else {
         return;
     };
-    pan::mask(&mut copy[from..from + pan::WIDTH]);
+    pan::mask(&mut piece[from..from + pan::WIDTH]);
 }
 
-// Masks the copy of a file that stands in front of the output, piece by piece.
-fn mask_copy(file: &[u8], out: &mut [u8])
-    requires { ⌜ (length (now file) ≤ length (now out)) × (take (length (now file)) (now out) ≡ now file) ⌝ }
-    ensures { λ _. ⌜ now (out .exit) ≡ maskedFile (now (file .entry)) ++ drop (length (now (file .entry))) (now (out .entry)) ⌝ }
+// Masks every record that a line end closes in these bytes, and answers how many bytes stand before the unfinished one.
+pub fn mask_lines(bytes: &mut [u8]) -> usize
+    ensures { λ r. ⌜ MasksLines (now (bytes .entry)) r (now (bytes .exit)) ⌝ }
 {
     let mut at = 0;
-    while at < file.len() {
-        let Found::At(end) = lines::next_lf(file, at) else {
-            return;
+    while at < bytes.len() {
+        let Found::At(end) = lines::next_lf(bytes, at) else {
+            return at;
         };
-        mask_piece(&file[at..end], &mut out[at..end]);
+        mask_piece(&mut bytes[at..end]);
         at = end + 1;
     }
+    at
 }
 
 // Whether an output has room for a file, and the file's answer: 1, then 2, then the file's own.
@@ -74,7 +73,8 @@ fn write_masked(file: &[u8], out: &mut [u8])
     ensures { λ _. ⌜ now (out .exit) ≡ maskedFile (now (file .entry)) ++ drop (length (now (file .entry))) (now (out .entry)) ⌝ }
 {
     bytes::copy(file, out);
-    mask_copy(file, out);
+    let length = file.len();
+    mask_lines(&mut out[..length]);
 }
 
 // Writes the masked copy of an accepted file into the front of the output; refused, it changes nothing.

@@ -11,7 +11,7 @@ use refusal::Refusal;
 const WIDTH: usize = 52;
 
 // The sheet of an accepted file: its numbers but the count of records, and the edition.
-fn sheet_from(edition: u64, numbers: Accepted) -> Sheet
+pub fn sheet_from(edition: u64, numbers: Accepted) -> Sheet
     ensures { λ r. ⌜ r ≡ sheetFrom edition numbers ⌝ }
 {
     let totals = numbers.totals;

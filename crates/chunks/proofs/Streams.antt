@@ -35,17 +35,19 @@ cut-before (x ∷ a) b e = one (eqb x lf) e (cut-before a b)
     one false e w = ap (λ (ls : Lines). inFront x (ls .pieces) (ls .rest)) (w e) ∙ byte-before x a (cut b .pieces) (cut b .rest)
 
 -- the cut of bytes goes on from what was left of those before
-rejoined-behind : (ps : List (List ℕ)) (r b : List ℕ) → rejoined ps r ++ b ≡ rejoined ps (r ++ b)
+pub rejoined-behind : (ps : List (List ℕ)) (r b : List ℕ) → rejoined ps r ++ b ≡ rejoined ps (r ++ b)
 unfolding rejoined
 rejoined-behind [] r b = refl
 rejoined-behind (p ∷ ps) r b = append-assoc p _ b ∙ ap (λ s. p ++ (lf ∷ s)) (rejoined-behind ps r b)
 
-pub cut-behind : (a b : List ℕ) → cut (a ++ b) ≡ piecesThen (cut a .pieces) (heldBefore (cut a .rest) (cut b .pieces) (cut b .rest))
-cut-behind a b =
+pub cut-on : (a b : List ℕ) → cut (a ++ b) ≡ piecesThen (cut a .pieces) (cut (cut a .rest ++ b))
+cut-on a b =
     let w = cut-is-cut a in
     ap (λ s. cut (s ++ b)) (sym (w .whole)) ∙ ap cut (rejoined-behind (cut a .pieces) (cut a .rest) b) ∙
-    cut-rejoined (cut a .pieces) (cut a .rest ++ b) (w .pieces-clear) ∙
-    ap (piecesThen (cut a .pieces)) (cut-before (cut a .rest) b (w .rest-clear))
+    cut-rejoined (cut a .pieces) (cut a .rest ++ b) (w .pieces-clear)
+
+cut-behind : (a b : List ℕ) → cut (a ++ b) ≡ piecesThen (cut a .pieces) (heldBefore (cut a .rest) (cut b .pieces) (cut b .rest))
+cut-behind a b = cut-on a b ∙ ap (piecesThen (cut a .pieces)) (cut-before (cut a .rest) b (cut-is-cut a .rest-clear))
 
 -- a step that looks no further into a piece than what is kept of it
 abbrev pub LooksNoFurther : {S A : Type 0} → (S → List ℕ → A) → Type 0

@@ -1,9 +1,9 @@
 -- `card_mask::write_masked` meets its contract: the file is copied, and the copy masked.
-use Prim.Native.Nat.{ℕ}
-use mathlib.Core.Path.{_≡_, _∙_, ap}
+use Prim.Native.Nat.{ℕ, _≤_}
+use mathlib.Core.Path.{_≡_, sym, _∙_, ap, ap₂}
 use mathlib.Core.List.{List, _++_}
 use native.Mathlib.Omega.{arith}
-use lib.ListN.{length, take, drop, length-append}
+use lib.ListN.{length, take, drop}
 use lib.Seq.{take-length, take-append-seam, drop-append-seam}
 use Rattle.card_mask.specs.Masked.{maskedFile}
 use borrow.Author.Needs.{needs}
@@ -13,16 +13,25 @@ use Rattle.card_mask.proofs.write_masked.Tie as tie
 copy-requires : tie.Need-copy-requires
 copy-requires c κs = search needs
 
--- what copying leaves: the file, and the output behind it
-copied : (file out : List ℕ) {l : List ℕ} → l ≡ take (length file) file ++ drop (length file) out → l ≡ file ++ drop (length file) out
-copied file out e = e ∙ ap (λ (f : List ℕ). f ++ drop (length file) out) (take-length file)
+slice-relend-prefix-mask-lines : tie.Need-slice-relend-prefix-mask-lines
+slice-relend-prefix-mask-lines c = search needs
 
-mask-copy-requires : tie.Need-mask-copy-requires
-mask-copy-requires c κs =
+-- what copying leaves: the file in front, and the output behind it
+in-front : (file out : List ℕ) {l : List ℕ} → l ≡ take (length file) file ++ drop (length file) out → take (length file) l ≡ file
+in-front file out e =
+    ap (take (length file)) (e ∙ ap (λ (f : List ℕ). f ++ drop (length file) out) (take-length file)) ∙ take-append-seam file (drop (length file) out)
+
+behind : (file out : List ℕ) {l : List ℕ} → l ≡ take (length file) file ++ drop (length file) out → drop (length file) l ≡ drop (length file) out
+behind file out e =
+    ap (drop (length file)) (e ∙ ap (λ (f : List ℕ). f ++ drop (length file) out) (take-length file)) ∙ drop-append-seam file (drop (length file) out)
+
+slice-aggregate-mask-lines : tie.Need-slice-aggregate-mask-lines
+slice-aggregate-mask-lines c =
     let a = c .before .before .before .before .before .before .before .args in
-    let n = length (a .file .now) in
-    let l = copied (a .file .now) (a .out .now) (c .before .before .before .copy .ensures .1) in
-    (omega (arith, ap length l ∙ length-append (a .file .now) (drop n (a .out .now))), ap (take n) l ∙ take-append-seam (a .file .now) (drop n (a .out .now)))
+    sym (ap length (in-front (a .file .now) (a .out .now) (c .before .before .before .copy .ensures .1)))
+
+mask-lines-requires : tie.Need-mask-lines-requires
+mask-lines-requires c κs = search needs
 
 same-length : tie.Need-same-length
 same-length c = search needs
@@ -30,10 +39,18 @@ same-length c = search needs
 returns : tie.Need-returns
 returns c =
     let a = c .before .before .before .before .before .before .before .before .before .before .args in
-    let n = length (a .file .now) in
-    c .before .before .mask-copy .ensures ∙
-    ap (λ (l : List ℕ). maskedFile (a .file .now) ++ l)
-    (ap (drop n) (copied (a .file .now) (a .out .now) (c .before .before .before .before .before .before .copy .ensures .1)) ∙ drop-append-seam (a .file .now) (drop n (a .out .now)))
+    let copied = c .before .before .before .before .before .before .copy .ensures .1 in
+    ap₂ _++_
+    (c .before .before .mask-lines .ensures .leaves ∙ ap maskedFile (in-front (a .file .now) (a .out .now) copied))
+    (behind (a .file .now) (a .out .now) copied)
 
 pub write-masked-spec : {M : Type 1} → statement M
-write-masked-spec = tie.close (tie.spec copy-requires mask-copy-requires same-length returns)
+write-masked-spec =
+    tie.close
+    (tie.spec
+    copy-requires
+    slice-relend-prefix-mask-lines
+    slice-aggregate-mask-lines
+    mask-lines-requires
+    same-length
+    returns)
