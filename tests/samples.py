@@ -1,5 +1,6 @@
 #!/usr/bin/env python3
-"""Writes the files of samples/. All is made up, and the card numbers are the card brands' own test numbers.
+"""Writes the files of samples/, and the same files where the programs' own runs take them from. All is made up, and the card numbers are the card
+brands' own test numbers.
 
     tests/samples.py
 """
@@ -7,7 +8,7 @@ import pathlib
 
 from made import SALE, card_file, payroll_file
 
-SAMPLES = pathlib.Path(__file__).resolve().parent.parent / "samples"
+ROOT = pathlib.Path(__file__).resolve().parent.parent
 
 
 def sale(store, gross, discount, card, **other):
@@ -43,11 +44,28 @@ def refused():
     return [a0, l0, cv.replace(b"000003\r\n", b"000004\r\n"), l9, a9]
 
 
+FILES = {
+    "day.card": b"".join(card_file(DAY)),
+    "refused.card": b"".join(refused()),
+    "wages.payroll": b"".join(payroll_file(WAGES)),
+    "day.sheet": SHEET,
+}
+
+# What a program is run on: its standard input, or its data.
+RUNS = {
+    "card/stdin": "day.card",
+    "mask/data/day.card": "day.card",
+    "payroll/stdin": "wages.payroll",
+    "sheet/data/day.sheet": "day.sheet",
+}
+
+
 def main():
-    (SAMPLES / "day.card").write_bytes(b"".join(card_file(DAY)))
-    (SAMPLES / "refused.card").write_bytes(b"".join(refused()))
-    (SAMPLES / "wages.payroll").write_bytes(b"".join(payroll_file(WAGES)))
-    (SAMPLES / "day.sheet").write_bytes(SHEET)
+    for name, content in FILES.items():
+        (ROOT / "samples" / name).write_bytes(content)
+    for place, name in RUNS.items():
+        (ROOT / "crates" / place).write_bytes(FILES[name])
 
 
-main()
+if __name__ == "__main__":
+    main()

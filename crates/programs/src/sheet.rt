@@ -1,12 +1,14 @@
 // The day sheet of a card file, from file to file; and a sheet that is read again.
 use crate::card;
-use crate::outcome;
 use crate::outcome::Mistake;
 use crate::outcome::Outcome;
+use card_run::answer::Accepted;
 use card_run::answer::CardAnswer;
 use day_sheet::layout;
 use day_sheet::reader;
 use day_sheet::reader::SheetRead;
+use day_sheet::writer;
+use day_sheet::writer::SheetWritten;
 use files::draft;
 use files::draft::Begun;
 use files::draft::Draft;
@@ -30,13 +32,31 @@ fn fill(draft: Draft, sheet: &[u8], out: &[u8]) -> bool {
     false
 }
 
-// Writes the sheet of an accepted file into the file of this name, and answers whether that went well.
-fn save(edition: u64, answer: CardAnswer, out: &[u8]) -> bool {
+// Writes a file's numbers as a sheet into the file of this name, and answers whether that went well.
+fn save(edition: u64, numbers: Accepted, out: &[u8]) -> bool {
     let mut sheet = [0u8; layout::WIDTH];
-    card_sheet::write_sheet(edition, answer, &mut sheet);
+    let SheetWritten::Written = writer::write(card_sheet::sheet_from(edition, numbers), &mut sheet)
+    else {
+        return false;
+    };
     match draft::begin(out) {
         Begun::Failed => false,
         Begun::Draft(draft) => fill(draft, &sheet, out),
+    }
+}
+
+// Saves the sheet of an accepted file; any other answer has none.
+fn save_answer(edition: u64, answer: CardAnswer, out: &[u8]) -> Outcome {
+    match answer {
+        CardAnswer::GoingOn => Outcome::Answer(answer),
+        CardAnswer::Refused(_) => Outcome::Answer(answer),
+        CardAnswer::Accepted(numbers) => {
+            if save(edition, numbers, out) {
+                Outcome::Answer(answer)
+            } else {
+                Outcome::Mistake(Mistake::CannotWrite)
+            }
+        }
     }
 }
 
@@ -54,16 +74,10 @@ fn check_file(edition: u64, file: &[u8]) -> Outcome {
 // Writes the day sheet of an accepted file. Of any other there is no sheet, and what was at `out` is still there.
 pub fn write(edition: u64, file: &[u8], out: &[u8]) -> Outcome {
     let outcome = check_file(edition, file);
-    if !outcome::is_accepted(outcome) {
-        return outcome;
+    match outcome {
+        Outcome::Mistake(_) => outcome,
+        Outcome::Answer(answer) => save_answer(edition, answer, out),
     }
-    let Outcome::Answer(answer) = outcome else {
-        return outcome;
-    };
-    if save(edition, answer, out) {
-        return outcome;
-    }
-    Outcome::Mistake(Mistake::CannotWrite)
 }
 
 // Reads the sheet that a descriptor reads.

@@ -1,10 +1,10 @@
 -- `files::beside::folder` meets its contract: a folder is no longer than its path.
-use Prim.Native.Nat.{ℕ, _≤_, min}
-use mathlib.Core.Path.{_≡_, ap, sym, _∙_}
+use Prim.Native.Nat.{ℕ, min}
+use mathlib.Core.Path.{_≡_, ap}
 use mathlib.Core.List.{List}
 use native.Mathlib.Omega.{arith}
 use borrow.Author.Needs.{needs}
-use lib.ListN.{length, take}
+use lib.ListN.{take}
 use Rattle.files.specs.Beside.{folderSize}
 use Rattle.files.proofs.Folders.{folder-within}
 use Rattle.files.proofs.Parts.{front-length}

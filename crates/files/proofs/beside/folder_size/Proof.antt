@@ -1,12 +1,11 @@
 -- `files::beside::folder_size` meets its contract. The invariant: the bytes that are left in front have the folder of the whole path.
-use Prim.Native.Nat.{ℕ, _+_, _-_, _≤_, _<_}
-use mathlib.Core.Path.{_≡_, refl, ap, sym, _∙_}
-use mathlib.Core.List.{List, [], _∷_, _++_}
+use Prim.Native.Nat.{ℕ, _-_, _≤_}
+use mathlib.Core.Path.{_≡_, ap, sym, _∙_}
+use mathlib.Core.List.{List}
 use native.Mathlib.Omega.{arith}
-use native.Mathlib.Numerals.{add-one}
 use borrow.Author.Needs.{needs}
-use lib.ListN.{length, take, getD}
-use lib.Seq.{take-suc, take-length}
+use lib.ListN.{length, take}
+use lib.Seq.{take-length}
 use Rattle.files.specs.Beside.{folderSize}
 use Rattle.files.proofs.Folders.{slash-at, other-at}
 use Rattle.files.proofs.beside.folder_size.Statement.{statement}

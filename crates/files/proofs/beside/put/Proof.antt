@@ -1,6 +1,6 @@
 -- `files::beside::put` meets its contract: what `copy` promises of the part behind the first bytes.
 use Prim.Native.Nat.{ℕ, _+_}
-use mathlib.Core.Path.{_≡_, ap, sym, _∙_}
+use mathlib.Core.Path.{ap}
 use native.Mathlib.Omega.{arith}
 use Rattle.files.proofs.Parts.{text-behind}
 use borrow.Author.Needs.{needs}

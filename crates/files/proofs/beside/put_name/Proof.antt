@@ -1,10 +1,10 @@
 -- `files::beside::put_name` meets its contract: three texts, one behind the other, for which there is room, since a folder has at most 4096 bytes
 -- and a number twenty digits.
 use Prim.Native.Nat.{ℕ, _≤_}
-use mathlib.Core.Path.{_≡_, ap, ap₂, sym, _∙_}
+use mathlib.Core.Path.{ap, ap₂, _∙_}
 use mathlib.Core.List.{List, _++_}
 use native.Mathlib.Omega.{arith}
-use lib.ListN.{length, take, length-take}
+use lib.ListN.{length, length-take}
 use Rattle.text.specs.Literal.{ascii}
 use Rattle.files.proofs.Decimals.{twenty}
 use Rattle.files.proofs.Folders.{folder-short}

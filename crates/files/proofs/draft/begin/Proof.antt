@@ -1,7 +1,6 @@
 -- `files::draft::begin` is safe and ends. The measure is how many numbers are left; nothing has to hold from turn to turn.
 use Prim.Native.Nat.{_-_}
 use borrow.Author.Needs.{needs}
-use native.Mathlib.Omega.{arith}
 use Rattle.files.proofs.draft.begin.Statement.{statement}
 use Rattle.files.proofs.draft.begin.Tie as tie
 

@@ -1,20 +1,11 @@
 -- `programs::card::check_by` is safe and ends. The invariant: the buffer keeps its length. The measure is the count of reads.
-use Prim.Native.Nat.{ℕ, _+_, _*_, _-_, _/_, _≤_, _<_, min}
-use mathlib.Core.Path.{_≡_, refl, ap, sym, subst, _∙_}
+use Prim.Native.Nat.{_-_}
+use mathlib.Core.Path.{_≡_}
 use native.Mathlib.Omega.{arith}
-use lib.ListN.{length, getD, drop, take}
+use lib.ListN.{length}
 use borrow.Author.Needs.{needs}
 use Rattle.programs.proofs.card.check_by.Statement.{statement}
 use Rattle.programs.proofs.card.check_by.Tie as tie
-use Rattle.programs.proofs.card.check_by.Reads as reads
-use Rattle.programs.proofs.card.check_by.Lts as lts
-use Rattle.card_stream.proofs.Stream.answer.Reads as answer-reads
-use Rattle.card_stream.proofs.Stream.end.Reads as end-reads
-use Rattle.card_stream.proofs.Stream.open.Reads as open-reads
-use Rattle.card_stream.proofs.Stream.take.Reads as take-reads
-use Rattle.files.proofs.reading.read_some.Reads as read-some-reads
-use Rattle.programs.proofs.outcome.is_decided.Reads as is-decided-reads
-
 use Rattle.files.proofs.Parts.{front-length}
 use Rattle.files.proofs.Answers.{got-within}
 
@@ -24,109 +15,84 @@ Inv-loop edition fd buffer₀ stream₀ reads₀ buffer stream reads = length bu
 abbrev μ-loop : tie.MeasureT-loop
 μ-loop edition fd buffer₀ stream₀ reads₀ buffer stream reads = reads
 
--- src/card.rt:14:9
 open-requires : tie.Need-open-requires Inv-loop μ-loop
 open-requires c κs = search needs
 
--- src/card.rt:16:5
 loop-holds : tie.Need-loop-holds Inv-loop μ-loop
 loop-holds c = search needs
 
--- src/card.rt:17:15
 read-some-requires : tie.Need-read-some-requires Inv-loop μ-loop
 read-some-requires c κs = search needs
 
--- src/card.rt:18:52
 enum-told : tie.Need-enum-told Inv-loop μ-loop
 enum-told c = search needs
 
--- src/card.rt:18:28
 same-length : tie.Need-same-length Inv-loop μ-loop
 same-length c = search needs
 
--- src/card.rt:18:28
 returns : tie.Need-returns Inv-loop μ-loop
 returns c = search needs
 
--- src/card.rt:19:48
 enum-told-2 : tie.Need-enum-told-2 Inv-loop μ-loop
 enum-told-2 c = search needs
 
--- src/card.rt:19:48
 end-requires : tie.Need-end-requires Inv-loop μ-loop
 end-requires c κs = search needs
 
--- src/card.rt:19:48
 answer-requires : tie.Need-answer-requires Inv-loop μ-loop
 answer-requires c κs = search needs
 
--- src/card.rt:19:25
 same-length-2 : tie.Need-same-length-2 Inv-loop μ-loop
 same-length-2 c = search needs
 
--- src/card.rt:19:25
 returns-2 : tie.Need-returns-2 Inv-loop μ-loop
 returns-2 c = search needs
 
--- src/card.rt:20:24
 enum-known-size : tie.Need-enum-known-size Inv-loop μ-loop
 enum-known-size c = search needs
 
--- src/card.rt:20:54
 slice-reshare-prefix-take : tie.Need-slice-reshare-prefix-take Inv-loop μ-loop
 slice-reshare-prefix-take c =
     omega (
       arith,
       got-within (length (c .before .before .before .before .before .before .before .before .loop .buffer)) _ _
-      (c .before .before .before .before .before .read-some .ensures)
-      (c .before .size .given .1),
+          (c .before .before .before .before .before .read-some .ensures)
+          (c .before .size .given .1),
     )
 
--- src/card.rt:20:54
 slice-aggregate-take : tie.Need-slice-aggregate-take Inv-loop μ-loop
 slice-aggregate-take c = front-length _ _ (slice-reshare-prefix-take (c .before))
 
--- src/card.rt:20:33
 take-requires : tie.Need-take-requires Inv-loop μ-loop
 take-requires c κs = search needs
 
--- src/card.rt:22:32
 answer-requires-2 : tie.Need-answer-requires-2 Inv-loop μ-loop
 answer-requires-2 c κs = search needs
 
--- src/card.rt:22:12
 is-decided-requires : tie.Need-is-decided-requires Inv-loop μ-loop
 is-decided-requires c κs = search needs
 
--- src/card.rt:23:36
 answer-requires-3 : tie.Need-answer-requires-3 Inv-loop μ-loop
 answer-requires-3 c κs = search needs
 
--- src/card.rt:23:13
 same-length-3 : tie.Need-same-length-3 Inv-loop μ-loop
 same-length-3 c = search needs
 
--- src/card.rt:23:13
 returns-3 : tie.Need-returns-3 Inv-loop μ-loop
 returns-3 c = search needs
 
--- src/card.rt:25:9
 sub-reads : tie.Need-sub-reads Inv-loop μ-loop
 sub-reads c = search needs
 
--- src/card.rt:16:5
 loop-less : tie.Need-loop-less Inv-loop μ-loop
 loop-less c = search needs
 
--- src/card.rt:16:5
 loop-again : tie.Need-loop-again Inv-loop μ-loop
 loop-again c = search needs
 
--- src/card.rt:13:1
 same-length-4 : tie.Need-same-length-4 Inv-loop μ-loop
 same-length-4 c = search needs
 
--- src/card.rt:13:1
 returns-4 : tie.Need-returns-4 Inv-loop μ-loop
 returns-4 c = search needs
 

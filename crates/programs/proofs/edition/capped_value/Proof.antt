@@ -1,16 +1,13 @@
 -- `programs::edition::capped_value` meets its contract. The invariant: the value so far, with the digits still to come, is the value of all.
 -- Where one more digit leaves 64 bits, so does the whole.
-use Prim.Native.Nat.{ℕ, _+_, _*_, _-_, _/_, _≤_, _<_, min}
-use mathlib.Core.Path.{_≡_, refl, ap, sym, subst, _∙_}
+use Prim.Native.Nat.{_-_, _≤_}
+use mathlib.Core.Path.{_≡_, refl, sym, _∙_}
 use native.Mathlib.Omega.{arith}
-use lib.ListN.{length, getD, drop, take}
+use lib.ListN.{length, getD, drop}
 use Rattle.text.specs.Number.{valueFrom, valueOf}
 use borrow.Author.Needs.{needs}
 use Rattle.programs.proofs.edition.capped_value.Statement.{statement}
 use Rattle.programs.proofs.edition.capped_value.Tie as tie
-use Rattle.programs.proofs.edition.capped_value.Reads as reads
-use Rattle.programs.proofs.edition.capped_value.Lts as lts
-
 use Rattle.text.specs.declared.alphabet.Alphabet.the-variants.{Digits}
 use Rattle.text.specs.Alphabet.{allowed}
 use Rattle.text.proofs.Alphabets.{at-each, digit-low, digit-high}
@@ -30,55 +27,43 @@ abbrev μ-loop : tie.MeasureT-loop
 is-digit : (c : tie.In-loop Inv-loop μ-loop) → allowed Digits (getD (now (c .before .before .args .digits)) (c .before .loop .i) 0) ≡ true
 is-digit c = at-each Digits _ (c .before .before .pre) _ (c .loop-test .taken)
 
--- src/edition.rt:26:5
 loop-holds : tie.Need-loop-holds Inv-loop μ-loop
 loop-holds c = (search needs, search needs, refl)
 
--- src/edition.rt:27:22
 shared-slice-read-digit : tie.Need-shared-slice-read-digit Inv-loop μ-loop
 shared-slice-read-digit c = search needs
 
--- src/edition.rt:27:22
 sub-digit : tie.Need-sub-digit Inv-loop μ-loop
 sub-digit c = digit-low _ (is-digit (c .before))
 
--- src/edition.rt:27:21
 cast-digit : tie.Need-cast-digit Inv-loop μ-loop
 cast-digit c = omega (arith, digit-high _ (is-digit (c .before)))
 
--- src/edition.rt:28:13
 sub-if1 : tie.Need-sub-if1 Inv-loop μ-loop
 sub-if1 c = omega (arith, digit-high _ (is-digit (c .before)))
 
--- src/edition.rt:29:13
 returns : tie.Need-returns Inv-loop μ-loop
 returns c =
     let l = c .before .before .before .loop in
     over (l .value) _ (l .i) (c .before .before .loop-test .taken) (omega (arith, digit-high _ (is-digit (c .before .before)))) (l .inv .2)
 
--- src/edition.rt:31:17
 mul-value : tie.Need-mul-value Inv-loop μ-loop
 mul-value c = search needs
 
--- src/edition.rt:31:17
 add-value : tie.Need-add-value Inv-loop μ-loop
 add-value c = omega (arith, digit-high _ (is-digit (c .before .before)))
 
--- src/edition.rt:32:9
 add-i : tie.Need-add-i Inv-loop μ-loop
 add-i c = search needs
 
--- src/edition.rt:26:5
 loop-less : tie.Need-loop-less Inv-loop μ-loop
 loop-less c = search needs
 
--- src/edition.rt:26:5
 loop-again : tie.Need-loop-again Inv-loop μ-loop
 loop-again c =
     let l = c .before .before .before .loop in
     (search needs, omega (arith, digit-high _ (is-digit (c .before .before))), sym (digit-more _ _ _ (c .before .before .loop-test .taken)) ∙ (l .inv .2))
 
--- src/edition.rt:20:1
 returns-2 : tie.Need-returns-2 Inv-loop μ-loop
 returns-2 c =
     let l = c .before .loop in

@@ -1,24 +1,15 @@
 -- `programs::mask::copy_by` is safe and ends. The invariant: the unfinished line leaves room in the buffer, which keeps its length. The measure is
 -- the count of reads.
-use Prim.Native.Nat.{ℕ, _+_, _*_, _-_, _/_, _≤_, _<_, min}
-use mathlib.Core.Path.{_≡_, refl, ap, sym, subst, _∙_}
+use Prim.Native.Nat.{_+_, _-_, _≤_, _<_}
+use mathlib.Core.Path.{_≡_, subst}
 use native.Mathlib.Omega.{arith}
-use lib.ListN.{length, getD, drop, take}
+use lib.ListN.{length}
 use borrow.Author.Needs.{needs}
 use Rattle.programs.specs.Masking.{leavesRoom}
 use Rattle.files.proofs.Parts.{rest-length}
 use Rattle.files.proofs.Answers.{got-within}
 use Rattle.programs.proofs.mask.copy_by.Statement.{statement}
 use Rattle.programs.proofs.mask.copy_by.Tie as tie
-use Rattle.programs.proofs.mask.copy_by.Reads as reads
-use Rattle.programs.proofs.mask.copy_by.Lts as lts
-use Rattle.card_stream.proofs.Stream.answer.Reads as answer-reads
-use Rattle.card_stream.proofs.Stream.end.Reads as end-reads
-use Rattle.card_stream.proofs.Stream.open.Reads as open-reads
-use Rattle.card_stream.proofs.Stream.take.Reads as take-reads
-use Rattle.files.proofs.reading.read_some.Reads as read-some-reads
-use Rattle.programs.proofs.mask.write_lines.Reads as write-lines-reads
-use Rattle.programs.proofs.outcome.is_decided.Reads as is-decided-reads
 
 abbrev Inv-loop : tie.InvT-loop
 Inv-loop edition fd draft buffer₀ stream₀ tail₀ reads₀ buffer stream tail reads = (tail < length buffer) × (length buffer ≡ length buffer₀)
@@ -26,67 +17,51 @@ Inv-loop edition fd draft buffer₀ stream₀ tail₀ reads₀ buffer stream tai
 abbrev μ-loop : tie.MeasureT-loop
 μ-loop edition fd draft buffer₀ stream₀ tail₀ reads₀ buffer stream tail reads = reads
 
--- src/mask.rt:64:9
 open-requires : tie.Need-open-requires Inv-loop μ-loop
 open-requires c κs = search needs
 
--- src/mask.rt:67:5
 loop-holds : tie.Need-loop-holds Inv-loop μ-loop
 loop-holds c = search needs
 
--- src/mask.rt:68:49
 sub-read-some : tie.Need-sub-read-some Inv-loop μ-loop
 sub-read-some c = search needs
 
--- src/mask.rt:68:49
 part-read-some-start : tie.Need-part-read-some-start Inv-loop μ-loop
 part-read-some-start c = search needs
 
--- src/mask.rt:68:49
 part-read-some-end : tie.Need-part-read-some-end Inv-loop μ-loop
 part-read-some-end c = search needs
 
--- src/mask.rt:68:26
 read-some-requires : tie.Need-read-some-requires Inv-loop μ-loop
 read-some-requires c κs = search needs
 
--- src/mask.rt:69:52
 enum-told : tie.Need-enum-told Inv-loop μ-loop
 enum-told c = search needs
 
--- src/mask.rt:69:28
 same-length : tie.Need-same-length Inv-loop μ-loop
 same-length c = search needs
 
--- src/mask.rt:69:28
 returns : tie.Need-returns Inv-loop μ-loop
 returns c = search needs
 
--- src/mask.rt:70:48
 enum-told-2 : tie.Need-enum-told-2 Inv-loop μ-loop
 enum-told-2 c = search needs
 
--- src/mask.rt:70:48
 end-requires : tie.Need-end-requires Inv-loop μ-loop
 end-requires c κs = search needs
 
--- src/mask.rt:70:48
 answer-requires : tie.Need-answer-requires Inv-loop μ-loop
 answer-requires c κs = search needs
 
--- src/mask.rt:70:25
 same-length-2 : tie.Need-same-length-2 Inv-loop μ-loop
 same-length-2 c = search needs
 
--- src/mask.rt:70:25
 returns-2 : tie.Need-returns-2 Inv-loop μ-loop
 returns-2 c = search needs
 
--- src/mask.rt:71:24
 enum-known-size : tie.Need-enum-known-size Inv-loop μ-loop
 enum-known-size c = search needs
 
--- src/mask.rt:73:19
 -- what was read, with the unfinished line in front, lies within the buffer
 within : (c : tie.After-known-told Inv-loop μ-loop) →
     c .before .before .before .before .before .before .before .before .loop .tail + c .before .size .given .0 .0 ≤
@@ -102,85 +77,65 @@ within c =
 add-end : tie.Need-add-end Inv-loop μ-loop
 add-end c = omega (arith, within c)
 
--- src/mask.rt:74:30
 sub-take : tie.Need-sub-take Inv-loop μ-loop
 sub-take c = search needs
 
--- src/mask.rt:74:30
 part-take-start : tie.Need-part-take-start Inv-loop μ-loop
 part-take-start c = search needs
 
--- src/mask.rt:74:30
 part-take-end : tie.Need-part-take-end Inv-loop μ-loop
 part-take-end c = omega (arith, within (c .before))
 
--- src/mask.rt:74:9
 take-requires : tie.Need-take-requires Inv-loop μ-loop
 take-requires c κs = search needs
 
--- src/mask.rt:75:32
 answer-requires-2 : tie.Need-answer-requires-2 Inv-loop μ-loop
 answer-requires-2 c κs = search needs
 
--- src/mask.rt:75:12
 is-decided-requires : tie.Need-is-decided-requires Inv-loop μ-loop
 is-decided-requires c κs = search needs
 
--- src/mask.rt:76:36
 answer-requires-3 : tie.Need-answer-requires-3 Inv-loop μ-loop
 answer-requires-3 c κs = search needs
 
--- src/mask.rt:76:13
 same-length-3 : tie.Need-same-length-3 Inv-loop μ-loop
 same-length-3 c = search needs
 
--- src/mask.rt:76:13
 returns-3 : tie.Need-returns-3 Inv-loop μ-loop
 returns-3 c = search needs
 
--- src/mask.rt:78:35
 write-lines-requires : tie.Need-write-lines-requires Inv-loop μ-loop
 write-lines-requires c κs = (search needs, omega (arith, within (c .before .before .before .before .before .before .before)))
 
--- src/mask.rt:78:27
 enum-known-left : tie.Need-enum-known-left Inv-loop μ-loop
 enum-known-left c = search needs
 
--- src/mask.rt:79:37
 enum-told-3 : tie.Need-enum-told-3 Inv-loop μ-loop
 enum-told-3 c = search needs
 
--- src/mask.rt:79:13
 same-length-4 : tie.Need-same-length-4 Inv-loop μ-loop
 same-length-4 c = search needs
 
--- src/mask.rt:79:13
 returns-4 : tie.Need-returns-4 Inv-loop μ-loop
 returns-4 c = search needs
 
--- src/mask.rt:82:9
 sub-reads : tie.Need-sub-reads Inv-loop μ-loop
 sub-reads c = search needs
 
--- src/mask.rt:67:5
 loop-less : tie.Need-loop-less Inv-loop μ-loop
 loop-less c = search needs
 
--- src/mask.rt:67:5
 loop-again : tie.Need-loop-again Inv-loop μ-loop
 loop-again c =
     let b3 = c .before .before .before .before in
-    let b1 = b3 .before .before .before .before .before .before .before .before .before .before .before .before .before in
-    (
+    let b1 = b3 .before .before .before .before .before .before .before .before .before .before .before .before .before in (
       subst (leavesRoom _) (c .before .left .given .1) (b3 .before .write-lines .ensures),
       omega (arith, b3 .buffer3 .given, b1 .buffer .given, b1 .before .before .before .before .loop .inv .1),
     )
 
--- src/mask.rt:61:1
 same-length-5 : tie.Need-same-length-5 Inv-loop μ-loop
 same-length-5 c = search needs
 
--- src/mask.rt:61:1
 returns-5 : tie.Need-returns-5 Inv-loop μ-loop
 returns-5 c = search needs
 

@@ -4,61 +4,44 @@ use Rattle.files.proofs.Answers.{loaded-within}
 use borrow.Author.Needs.{needs}
 use Rattle.programs.proofs.sheet.read_from.Statement.{statement}
 use Rattle.programs.proofs.sheet.read_from.Tie as tie
-use Rattle.programs.proofs.sheet.read_from.Reads as reads
-use Rattle.programs.proofs.sheet.read_from.Lts as lts
-use Rattle.day_sheet.proofs.reader.read.Reads as read-reads
-use Rattle.files.proofs.reading.read_all.Reads as read-all-reads
 
--- src/sheet.rt:72:33
 slice-aggregate-read-all : tie.Need-slice-aggregate-read-all
 slice-aggregate-read-all c = search needs
 
--- src/sheet.rt:72:11
 read-all-requires : tie.Need-read-all-requires
 read-all-requires c κs = search needs
 
--- src/sheet.rt:73:49
 enum-told : tie.Need-enum-told
 enum-told c = search needs
 
--- src/sheet.rt:74:23
 enum-known-size : tie.Need-enum-known-size
 enum-known-size c = search needs
 
--- src/sheet.rt:74:64
 array-share-prefix-bytes : tie.Need-array-share-prefix-bytes
 array-share-prefix-bytes c =
     loaded-within _ _ _ (c .before .before .before .before .read-all .ensures) (c .before .size .given .1)
 
--- src/sheet.rt:74:64
 slice-aggregate-read : tie.Need-slice-aggregate-read
 slice-aggregate-read c = front-length _ _ (array-share-prefix-bytes (c .before))
 
--- src/sheet.rt:74:51
 read-requires : tie.Need-read-requires
 read-requires c κs = search needs
 
--- src/sheet.rt:75:60
 enum-told-2 : tie.Need-enum-told-2
 enum-told-2 c = search needs
 
--- src/sheet.rt:75:60
 slice-aggregate-read-2 : tie.Need-slice-aggregate-read-2
 slice-aggregate-read-2 c = search needs
 
--- src/sheet.rt:75:47
 read-requires-2 : tie.Need-read-requires-2
 read-requires-2 c κs = search needs
 
--- src/sheet.rt:70:1
 returns : tie.Need-returns
 returns c = search needs
 
--- src/sheet.rt:70:1
 returns-2 : tie.Need-returns-2
 returns-2 c = search needs
 
--- src/sheet.rt:70:1
 returns-3 : tie.Need-returns-3
 returns-3 c = search needs
 
