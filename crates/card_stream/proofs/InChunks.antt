@@ -19,7 +19,7 @@ use Rattle.card_stream.specs.Stream.{streamOf, openOf, takenOf, endedOf,
 use Rattle.card_stream.proofs.NoFurther.{no-further}
 
 -- the end looks at whether a byte is left
-some-left : (st : Running) (s : List ℕ) → 0 < length s → endOf st s ≡ unendedOf st
+pub some-left : (st : Running) (s : List ℕ) → 0 < length s → endOf st s ≡ unendedOf st
 unfolding endOf
 some-left st [] h = absurd (omega arith)
 some-left st (b ∷ s) h = refl

@@ -110,7 +110,7 @@ pub bad-edition : (edition : ℕ) → (edition ≡ 1 → ⊥) → (edition ≡ 2
 bad-edition edition one two = refused-for-good (openOf edition) badEdition (stays.bad-edition-opens edition one two)
 
 -- an accepted answer is that of a closed run
-closed-stage : (st : Running) (answer : AcceptedFile) → answerOf st ≡ accepted answer → st .stage ≡ Closed
+pub closed-stage : (st : Running) (answer : AcceptedFile) → answerOf st ≡ accepted answer → st .stage ≡ Closed
 unfolding answerAt
 closed-stage st answer = by (st .stage)
   where

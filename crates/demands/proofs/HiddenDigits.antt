@@ -33,6 +33,8 @@ use Rattle.demands.specs.HiddenDigits.{
   HiddenDigitsReachNothing,
   MaskedWhereHidden,
 }
+use Rattle.chunks.specs.Chunks.{joinedChunks}
+use Rattle.demands.proofs.InChunks.{as-the-whole}
 use Rattle.demands.proofs.TwinRecords.{same-reading}
 use Rattle.demands.proofs.TwinFiles as files
 use Rattle.demands.proofs.TwinMasks.{same-masked}
@@ -116,6 +118,8 @@ hidden-digits-reach-nothing =
             m .answers ∙ answers ∙ sym (n .answers),
             m .leaves ∙ ap (λ answer. maskedInto answer s out) answers ∙ same-output (maskAnswer edition t (length out)) s t out w ∙ sym (n .leaves),
           );
+      in-chunks = λ edition cs ds w. as-the-whole .card-file edition cs ∙ same-check edition (joinedChunks cs) (joinedChunks ds) w ∙ sym (as-the-whole .card-file edition ds);
+      copied = λ cs ds w. as-the-whole .masked-copy cs ∙ same-masked (joinedChunks cs) (joinedChunks ds) w ∙ sym (as-the-whole .masked-copy ds);
       sheets = λ edition s t out w a b after-s after-t m n.
           let answers = same-sheet edition s t (length out) w in (
             m .answers ∙ answers ∙ sym (n .answers),

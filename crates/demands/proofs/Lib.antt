@@ -4,6 +4,7 @@ pub mod Standing
 pub mod AtItsPlace
 pub mod Outcomes
 pub mod Feeding
+pub mod InChunks
 pub mod FirstFault
 pub mod TwinLaws
 pub mod TwinRecords

@@ -1,7 +1,7 @@
 -- HIDDEN DIGITS REACH NOTHING: "Two files are compared in demand 3 byte for byte outside the hidden digits."
 use Prim.Native.Nat.{ℕ, _+_, _-_, _<_}
 use mathlib.Core.Path.{_≡_}
-use mathlib.Core.List.{List, [], _∷_}
+use mathlib.Core.List.{List, [], _∷_, _++_}
 use mathlib.Core.Bool.{Bool, false, cond, _&&_}
 use lib.ListN.{length, getD, take}
 use lib.Dec.{leb}
@@ -21,7 +21,9 @@ use Rattle.card_field.specs.Field.{refusalOf, fieldOf}
 use Rattle.card_mask.specs.Masked.{maskedFile}
 use Rattle.card_mask.specs.Mask.{Masks}
 use Rattle.card_sheet.specs.SheetOf.{SheetOf}
+use Rattle.chunks.specs.Chunks.{joinedChunks}
 use Rattle.demands.specs.Feeding.{fedAll, Call, feed, close, called}
+use Rattle.demands.specs.InChunks.{cardInChunks, copiedInChunks}
 
 -- a place of a record, from 0, is hidden where it is a hidden place of the card that begins at k;
 -- "It counts only in a record of kind CV, 199 wide, with a well-formed card field" (a card that is not well formed has no hidden place)
@@ -84,6 +86,10 @@ pub record HiddenDigitsReachNothing : Type 0 where
   -- the answer of masking, and every byte of the output
   pub masks : (edition : ℕ) (s t out : List ℕ) → TwinFiles s t → (answer-s answer-t : CardAnswer) (after-s after-t : List ℕ) →
       Masks edition s out answer-s after-s → Masks edition t out answer-t after-t → (answer-s ≡ answer-t) × (after-s ≡ after-t)
+  -- the answer of a file in chunks, however the two are cut, and the bytes that masking it has written
+  pub in-chunks : (edition : ℕ) (cs ds : List (List ℕ)) → TwinFiles (joinedChunks cs) (joinedChunks ds) → cardInChunks edition cs ≡ cardInChunks edition ds
+  pub copied : (cs ds : List (List ℕ)) → TwinFiles (joinedChunks cs) (joinedChunks ds) →
+      copiedInChunks cs .written ++ copiedInChunks cs .waiting ≡ copiedInChunks ds .written ++ copiedInChunks ds .waiting
   -- the answer of a file's day sheet, and every byte of the output
   pub sheets : (edition : ℕ) (s t out : List ℕ) → TwinFiles s t → (answer-s answer-t : CardAnswer) (after-s after-t : List ℕ) →
       SheetOf edition s out answer-s after-s → SheetOf edition t out answer-t after-t → (answer-s ≡ answer-t) × (after-s ≡ after-t)
