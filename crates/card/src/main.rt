@@ -2,7 +2,7 @@
 use libc::STDIN_FILENO;
 use programs::argument;
 use programs::card;
-use programs::edition::Edition;
+use edition::Edition;
 use programs::mistake;
 use programs::outcome::Mistake;
 use programs::verdict;
@@ -12,7 +12,7 @@ fn main() {
         mistake::tell_usage(b"card EDITION < FILE");
         return;
     }
-    match argument::edition(1) {
+    match argument::edition_at(1) {
         Edition::NoNumber => mistake::tell(Mistake::EditionNoNumber),
         Edition::Of(edition) => verdict::print_outcome(card::check(edition, STDIN_FILENO)),
     }

@@ -1,7 +1,7 @@
 // mask EDITION FILE OUT: writes the masked copy of an accepted card file to OUT, and prints the file's verdict.
 use libc::PATH_MAX;
 use programs::argument;
-use programs::edition::Edition;
+use edition::Edition;
 use programs::mask;
 use programs::mistake;
 use programs::outcome::Mistake;
@@ -21,7 +21,7 @@ fn main() {
         mistake::tell_usage(b"mask EDITION FILE OUT");
         return;
     }
-    match argument::edition(1) {
+    match argument::edition_at(1) {
         Edition::NoNumber => mistake::tell(Mistake::EditionNoNumber),
         Edition::Of(edition) => mask_named(edition),
     }

@@ -1,2 +1,1 @@
-pub mod Editions
 pub mod Finished

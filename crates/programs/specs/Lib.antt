@@ -1,2 +1,1 @@
-pub mod Edition
 pub mod Masking

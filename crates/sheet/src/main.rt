@@ -2,7 +2,7 @@
 // sheet FILE: prints the numbers of a day sheet.
 use libc::PATH_MAX;
 use programs::argument;
-use programs::edition::Edition;
+use edition::Edition;
 use programs::mistake;
 use programs::outcome::Mistake;
 use programs::sheet;
@@ -34,7 +34,7 @@ fn main() {
         mistake::tell_usage(b"sheet EDITION FILE OUT, or sheet FILE");
         return;
     }
-    match argument::edition(1) {
+    match argument::edition_at(1) {
         Edition::NoNumber => mistake::tell(Mistake::EditionNoNumber),
         Edition::Of(edition) => write_named(edition),
     }

@@ -7,8 +7,8 @@ use lib.Dec.{ltb}
 use Rattle.text.specs.Alphabet.{holdsOnly}
 use Rattle.text.specs.declared.alphabet.Alphabet.the-variants.{Digits}
 use Rattle.text.specs.Number.{valueOf}
-use Rattle.programs.specs.declared.edition.Edition.{Edition}
-use Rattle.programs.specs.declared.edition.Edition.the-variants.{Of, NoNumber}
+use Rattle.edition.specs.declared.Edition.{Edition}
+use Rattle.edition.specs.declared.Edition.the-variants.{Of, NoNumber}
 
 -- 2^64 - 1
 abbrev pub top : ℕ

@@ -4,7 +4,7 @@ ghost use mathlib.Core.Bool.{true};
 ghost use Prim.Native.Nat.{min};
 ghost use Rattle.text.specs.Alphabet.{holdsOnly};
 ghost use Rattle.text.specs.Number.{valueOf};
-ghost use Rattle.programs.specs.Edition.{top, editionOf};
+ghost use Rattle.edition.specs.Edition.{top, editionOf};
 use text::alphabet::Alphabet;
 
 pub enum Edition {

@@ -1,11 +1,11 @@
--- `programs::edition::edition_of` meets its contract: no byte, another byte than a digit, or the value.
+-- `edition::edition_of` meets its contract: no byte, another byte than a digit, or the value.
 use mathlib.Core.Path.{sym, _∙_}
 use native.Mathlib.Omega.{arith}
 use borrow.Author.Tests.{lt-ltb, le-ltb, not-true, not-false}
 use lib.ListN.{length}
 use borrow.Author.Needs.{needs}
-use Rattle.programs.proofs.edition.edition_of.Statement.{statement}
-use Rattle.programs.proofs.edition.edition_of.Tie as tie
+use Rattle.edition.proofs.edition_of.Statement.{statement}
+use Rattle.edition.proofs.edition_of.Tie as tie
 
 returns : tie.Need-returns
 returns c = rw (le-ltb 0 (length (c .before .before .args .word .now)) (omega arith))

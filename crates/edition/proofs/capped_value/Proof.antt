@@ -1,4 +1,4 @@
--- `programs::edition::capped_value` meets its contract. The invariant: the value so far, with the digits still to come, is the value of all.
+-- `edition::capped_value` meets its contract. The invariant: the value so far, with the digits still to come, is the value of all.
 -- Where one more digit leaves 64 bits, so does the whole.
 use Prim.Native.Nat.{_-_, _≤_}
 use mathlib.Core.Path.{_≡_, refl, sym, _∙_}
@@ -6,14 +6,14 @@ use native.Mathlib.Omega.{arith}
 use lib.ListN.{length, getD, drop}
 use Rattle.text.specs.Number.{valueFrom, valueOf}
 use borrow.Author.Needs.{needs}
-use Rattle.programs.proofs.edition.capped_value.Statement.{statement}
-use Rattle.programs.proofs.edition.capped_value.Tie as tie
+use Rattle.edition.proofs.capped_value.Statement.{statement}
+use Rattle.edition.proofs.capped_value.Tie as tie
 use Rattle.text.specs.declared.alphabet.Alphabet.the-variants.{Digits}
 use Rattle.text.specs.Alphabet.{allowed}
 use Rattle.text.proofs.Alphabets.{at-each, digit-low, digit-high}
 use Rattle.text.proofs.Numbers.{digit-more, digits-end}
-use Rattle.programs.specs.Edition.{top}
-use Rattle.programs.proofs.Editions.{over}
+use Rattle.edition.specs.Edition.{top}
+use Rattle.edition.proofs.Values.{over}
 use mathlib.Core.Bool.{true}
 use denote.Ref.{now}
 
