@@ -1,8 +1,8 @@
 // card EDITION < FILE: checks a card file, and prints its verdict.
+use edition::Edition;
 use libc::STDIN_FILENO;
 use programs::argument;
 use programs::card;
-use edition::Edition;
 use programs::mistake;
 use programs::outcome::Mistake;
 use programs::verdict;

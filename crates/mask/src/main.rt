@@ -1,7 +1,7 @@
 // mask EDITION FILE OUT: writes the masked copy of an accepted card file to OUT, and prints the file's verdict.
+use edition::Edition;
 use libc::PATH_MAX;
 use programs::argument;
-use edition::Edition;
 use programs::mask;
 use programs::mistake;
 use programs::outcome::Mistake;

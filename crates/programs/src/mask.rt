@@ -1,8 +1,8 @@
 // The masked copy of a card file, from file to file in one pass.
-ghost use Prim.Native.Nat.{_≤_, _<_, _-_};
+ghost use Prim.Native.Nat.{_≤_, _<_};
 ghost use mathlib.Core.Path.{_≡_};
-ghost use lib.ListN.{length, take, drop};
-ghost use Rattle.programs.specs.Masking.{leavesRoom};
+ghost use lib.ListN.{length};
+ghost use Rattle.programs.specs.Masking.{MovedToFront, keptSize, leaves};
 use crate::outcome;
 use crate::outcome::Mistake;
 use crate::outcome::Outcome;
@@ -26,7 +26,7 @@ enum Written {
 // Moves what stands from `from` up to `end` to the start of the buffer.
 fn move_to_front(buffer: &mut [u8], from: usize, end: usize)
     requires { ⌜ (from ≤ end) × (end ≤ length (now buffer)) ⌝ }
-    ensures { λ _. ⌜ length (now (buffer .exit)) ≡ length (now (buffer .entry)) ⌝ }
+    ensures { λ _. ⌜ MovedToFront (now (buffer .entry)) from end (now (buffer .exit)) ⌝ }
 {
     let mut i = 0;
     while i < end - from {
@@ -38,8 +38,7 @@ fn move_to_front(buffer: &mut [u8], from: usize, end: usize)
 // An unfinished line that fills the buffer belongs to no accepted file, so it is let go: nothing of its file is written any more,
 // since the file is refused at that line's end.
 fn tail_kept(tail: usize, room: usize) -> usize
-    requires { ⌜ 0 < room ⌝ }
-    ensures { λ r. ⌜ r < room ⌝ }
+    ensures { λ r. ⌜ r ≡ keptSize tail room ⌝ }
 {
     if tail < room { tail } else { 0 }
 }
@@ -47,7 +46,7 @@ fn tail_kept(tail: usize, room: usize) -> usize
 // Masks and writes the lines among the first `end` bytes, and moves the unfinished one to the front.
 fn write_lines(draft: Draft, buffer: &mut [u8], end: usize) -> Written
     requires { ⌜ (0 < length (now buffer)) × (end ≤ length (now buffer)) ⌝ }
-    ensures { λ r. ⌜ leavesRoom (length (now (buffer .exit))) r ⌝ }
+    ensures { λ r. ⌜ leaves (now (buffer .entry)) end (now (buffer .exit)) r ⌝ }
 {
     let lines = card_mask::mask_lines(&mut buffer[0..end]);
     if !draft.write(&buffer[0..lines]) {

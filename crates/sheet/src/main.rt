@@ -1,8 +1,8 @@
 // sheet EDITION FILE OUT: writes the day sheet of an accepted card file to OUT, and prints the file's verdict.
 // sheet FILE: prints the numbers of a day sheet.
+use edition::Edition;
 use libc::PATH_MAX;
 use programs::argument;
-use edition::Edition;
 use programs::mistake;
 use programs::outcome::Mistake;
 use programs::sheet;

@@ -5,7 +5,7 @@ use mathlib.Core.Path.{_≡_, subst}
 use native.Mathlib.Omega.{arith}
 use lib.ListN.{length}
 use borrow.Author.Needs.{needs}
-use Rattle.programs.specs.Masking.{leavesRoom}
+use Rattle.programs.specs.Masking.{leaves}
 use Rattle.files.proofs.Parts.{rest-length}
 use Rattle.files.proofs.Answers.{got-within}
 use Rattle.programs.proofs.mask.copy_by.Statement.{statement}
@@ -129,7 +129,7 @@ loop-again : tie.Need-loop-again Inv-loop μ-loop
 loop-again c =
     let b3 = c .before .before .before .before in
     let b1 = b3 .before .before .before .before .before .before .before .before .before .before .before .before .before in (
-      subst (leavesRoom _) (c .before .left .given .1) (b3 .before .write-lines .ensures),
+      subst (leaves _ _ _) (c .before .left .given .1) (b3 .before .write-lines .ensures) .0,
       omega (arith, b3 .buffer3 .given, b1 .buffer .given, b1 .before .before .before .before .loop .inv .1),
     )
 

@@ -1,6 +1,10 @@
 -- `programs::mask::write_lines` meets its contract: the finished lines lie within the bytes, and the tail is kept below the buffer's length.
-use Prim.Native.Nat.{_≤_}
+use Prim.Native.Nat.{_-_, _≤_}
+use mathlib.Core.Path.{_≡_}
 use native.Mathlib.Omega.{arith}
+use lib.ListN.{length, drop, length-take}
+use Rattle.programs.specs.Masking.{keptSize}
+use Rattle.programs.proofs.Waiting.{leaves-room, waits-in-front}
 use Rattle.programs.proofs.Finished.{finished-in-front}
 use borrow.Author.Needs.{needs}
 use Rattle.programs.proofs.mask.write_lines.Statement.{statement}
@@ -54,7 +58,20 @@ same-length-2 : tie.Need-same-length-2
 same-length-2 c = search needs
 
 returns-2 : tie.Need-returns-2
-returns-2 c = search needs
+returns-2 c =
+    let b = c .before .before .before .before .before .before .before .before .before .before .before in
+    let a = b .before .before .before .args in
+    let v = c .before .before .before .move-to-front in
+    let same : length (v .last .0) ≡ length (a .buffer .now) =
+    omega (arith, v .ensures .same, c .before .before .before .before .before .before .before .before .before .before .buffer .given) in
+    let l : length (b .mask-lines .last .0) ≡ a .end =
+    omega (arith, c .before .before .before .before .before .before .before .before .before .before .buffer .given, length-take (a .end - 0) (drop 0 (a .buffer .now)), c .before .before .before .before .before .before .before .before .before .before .before .before .before .before .pre .1) in
+    let k : c .tail-kept .result ≡ keptSize (a .end - b .mask-lines .result) (length (a .buffer .now)) =
+    rw same at (c .tail-kept .ensures) in (
+      rw (k, same) (leaves-room (a .end - b .mask-lines .result) (length (a .buffer .now)) (c .before .before .before .before .before .before .before .before .before .before .before .before .before .before .pre .0)),
+      waits-in-front (a .buffer .now) (b .mask-lines .last .0) _ (v .last .0) (a .end) (b .mask-lines .result) _ _ (b .mask-lines .ensures .counts)
+          (b .mask-lines .ensures .leaves) l (finished b) (v .ensures .front) k,
+    )
 
 pub write-lines-spec : {M : Type 1} → statement M
 write-lines-spec =
