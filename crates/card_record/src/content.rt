@@ -45,7 +45,7 @@ fn is_currency(part: &[u8]) -> bool
 }
 
 // Whether a part is a value of a closed set. Only captures go by the edition.
-fn is_in_set(set: ClosedSet, edition: u64, part: &[u8]) -> bool
+pub fn is_in_set(set: ClosedSet, edition: u64, part: &[u8]) -> bool
     ensures { λ r. ⌜ r ≡ inSet set edition (now (part .entry)) ⌝ }
 {
     match set {

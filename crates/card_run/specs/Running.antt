@@ -192,6 +192,15 @@ tookAt Ended st reading = refusedAt BytesAfterTheEnd 0 st
 tookAt Closed st reading = refusedAt BytesAfterTheEnd 0 st
 tookAt (Refused r) st reading = st
 
+-- what such a record makes of a state: one that comes when none is expected
+unfoldable pub lateAt : Stage → Running → Running
+lateAt Start st = st
+lateAt BetweenBatches st = st
+lateAt InBatch st = st
+lateAt Ended st = refusedAt BytesAfterTheEnd 0 st
+lateAt Closed st = refusedAt BytesAfterTheEnd 0 st
+lateAt (Refused r) st = st
+
 abbrev pub tookOf : Running → Reading → Running
 tookOf st reading = tookAt (st .stage) st reading
 

@@ -27,6 +27,15 @@ inBatch Cv = true
 inBatch L9 = true
 inBatch A9 = false
 
+-- whether a record is expected at a stage
+abbrev pub isOpen : Stage → Bool
+isOpen Start = true
+isOpen BetweenBatches = true
+isOpen InBatch = true
+isOpen Ended = false
+isOpen Closed = false
+isOpen (Refused r) = false
+
 -- whether a kind may stand at a stage
 abbrev pub placed : Stage → Kind → Bool
 placed Start k = first k

@@ -18,6 +18,7 @@ ghost use Rattle.card_run.specs.Running.{
   behindL9,
   behind,
   judgedOf,
+  lateAt,
   tookOf,
   fedOf,
   closedOf,
@@ -270,26 +271,37 @@ impl Running {
         }
     }
 
-    // Takes what reading answered of the next record.
-    pub fn took(self, reading: Reading) -> Running
-        ensures { λ r. ⌜ r ≡ tookOf self reading ⌝ }
+    // Takes a record that comes when none is expected.
+    fn took_late(self) -> Running
+        ensures { λ r. ⌜ r ≡ lateAt (self .stage) self ⌝ }
     {
         let stage = self.stage;
         match stage {
             Stage::Refused(_) => self,
             Stage::Ended => self.refused(Cause::BytesAfterTheEnd, 0),
             Stage::Closed => self.refused(Cause::BytesAfterTheEnd, 0),
-            Stage::Start => self.judged(reading),
-            Stage::BetweenBatches => self.judged(reading),
-            Stage::InBatch => self.judged(reading),
+            Stage::Start => self,
+            Stage::BetweenBatches => self,
+            Stage::InBatch => self,
         }
+    }
+
+    // Takes what reading answered of the next record. (It is judged in one place, so that the compiler keeps the state where it is.)
+    pub fn took(self, reading: Reading) -> Running
+        ensures { λ r. ⌜ r ≡ tookOf self reading ⌝ }
+    {
+        let stage = self.stage;
+        if stage.is_open() {
+            return self.judged(reading);
+        }
+        self.took_late()
     }
 
     // Takes the next record, without its line end.
     pub fn feed(self, bytes: &[u8]) -> Running
         ensures { λ r. ⌜ r ≡ fedOf self (now (bytes .entry)) ⌝ }
     {
-        self.took(card_record::reading::read(self.edition, bytes))
+        self.took(card_quick::read(self.edition, bytes))
     }
 
     // Closes the file: no record comes any more.

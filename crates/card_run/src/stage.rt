@@ -1,6 +1,6 @@
 // How far a card file has come, and which kinds may stand next.
 ghost use mathlib.Core.Path.{_≡_};
-ghost use Rattle.card_run.specs.Stage.{placed};
+ghost use Rattle.card_run.specs.Stage.{isOpen, placed};
 use card_record::kind::Kind;
 use refusal::Refusal;
 
@@ -19,6 +19,20 @@ pub enum Stage {
 }
 
 impl Stage {
+    // Whether a record is expected.
+    pub fn is_open(self) -> bool
+        ensures { λ r. ⌜ r ≡ isOpen self ⌝ }
+    {
+        match self {
+            Stage::Start => true,
+            Stage::BetweenBatches => true,
+            Stage::InBatch => true,
+            Stage::Ended => false,
+            Stage::Closed => false,
+            Stage::Refused(_) => false,
+        }
+    }
+
     // Whether a record of this kind may stand here.
     pub fn allows(self, kind: Kind) -> bool
         ensures { λ r. ⌜ r ≡ placed self kind ⌝ }

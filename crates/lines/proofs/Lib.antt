@@ -1,3 +1,4 @@
 pub mod Search
 pub mod Cuts
 pub mod Ends
+mod Clear

@@ -1,5 +1,6 @@
 // Which bytes a part may hold.
 ghost use mathlib.Core.Path.{_≡_};
+ghost use lib.ListN.{drop};
 ghost use Rattle.text.specs.Alphabet.{within, allowed, firstStray, holdsOnly};
 
 // The kinds of part, by the bytes that they may hold.
@@ -39,11 +40,47 @@ pub fn allows(alphabet: Alphabet, byte: u8) -> bool
     }
 }
 
+// Whether every byte is of this alphabet. There is no way out before the end, so that the machine can look at many bytes at once.
+pub fn holds_only(alphabet: Alphabet, part: &[u8]) -> bool
+    ensures { λ r. ⌜ r ≡ holdsOnly alphabet (now (part .entry)) ⌝ }
+{
+    let mut only = true;
+    let mut i = 0;
+    while i < part.len() {
+        if !allows(alphabet, part[i]) {
+            only = false;
+        }
+        i += 1;
+    }
+    only
+}
+
+// How many bytes are passed together where all are of the alphabet.
+const BLOCK: usize = 16;
+
+// A place behind blocks of this alphabet, from which the search goes on.
+fn behind_pure_blocks(alphabet: Alphabet, part: &[u8]) -> usize
+    ensures { λ r. ⌜ firstStray alphabet r (drop r (now (part .entry))) ≡ firstStray alphabet 0 (now (part .entry)) ⌝ }
+{
+    if part.len() < BLOCK {
+        return 0;
+    }
+    let last = part.len() - BLOCK;
+    let mut i = 0;
+    while i <= last {
+        if !holds_only(alphabet, &part[i..i + BLOCK]) {
+            return i;
+        }
+        i += BLOCK;
+    }
+    i
+}
+
 // The first place whose byte is not of this alphabet.
 pub fn first_stray(alphabet: Alphabet, part: &[u8]) -> Stray
     ensures { λ r. ⌜ r ≡ firstStray alphabet 0 (now (part .entry)) ⌝ }
 {
-    let mut i = 0;
+    let mut i = behind_pure_blocks(alphabet, part);
     while i < part.len() {
         if !allows(alphabet, part[i]) {
             return Stray::At(i);
@@ -51,14 +88,4 @@ pub fn first_stray(alphabet: Alphabet, part: &[u8]) -> Stray
         i += 1;
     }
     Stray::Nowhere
-}
-
-// Whether every byte is of this alphabet.
-pub fn holds_only(alphabet: Alphabet, part: &[u8]) -> bool
-    ensures { λ r. ⌜ r ≡ holdsOnly alphabet (now (part .entry)) ⌝ }
-{
-    match first_stray(alphabet, part) {
-        Stray::At(_) => false,
-        Stray::Nowhere => true,
-    }
 }

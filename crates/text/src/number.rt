@@ -4,7 +4,7 @@ ghost use mathlib.Core.Bool.{true};
 ghost use Prim.Native.Nat.{_≤_};
 ghost use lib.ListN.{length};
 ghost use Rattle.text.specs.Alphabet.{holdsOnly};
-ghost use Rattle.text.specs.Number.{valueOf, numberOf, plainNumber};
+ghost use Rattle.text.specs.Number.{valueOf, numberOf, plainNumber, valueIfDigits};
 use crate::alphabet::Alphabet;
 
 // What a part says when it is read as a number.
@@ -56,4 +56,28 @@ fn value_of(digits: &[u8]) -> u64
         i += 1;
     }
     value
+}
+
+// The longest part that is taken for digits: any 17 bytes stay below 2^64.
+const MOST_TAKEN: usize = 17;
+
+// The value that a part writes if it is digits, with no look at whether it is; 0 for a longer part.
+pub fn value_if_digits(part: &[u8]) -> u64
+    ensures { λ r. ⌜ r ≡ valueIfDigits (now (part .entry)) ⌝ }
+{
+    if MOST_TAKEN < part.len() {
+        return 0;
+    }
+    let mut value: u64 = 0;
+    let mut zeros: u64 = 0;
+    let mut i = 0;
+    while i < part.len() {
+        value = value * 10 + part[i] as u64;
+        zeros = zeros * 10 + b'0' as u64;
+        i += 1;
+    }
+    if value < zeros {
+        return 0;
+    }
+    value - zeros
 }

@@ -1,6 +1,6 @@
 -- `lines::next_lf` meets its contract. The invariant: searching on from i finds what searching from the start finds.
 use Prim.Native.Nat.{_-_}
-use mathlib.Core.Path.{_≡_, refl, sym, _∙_}
+use mathlib.Core.Path.{_≡_, sym, _∙_}
 use lib.ListN.{length}
 use borrow.Author.Needs.{needs}
 use Rattle.lines.specs.Lines.{nextLf}
@@ -14,8 +14,11 @@ Inv-loop bytes from i₀ i = nextLf i bytes ≡ nextLf from bytes
 abbrev μ-loop : tie.MeasureT-loop
 μ-loop bytes from i₀ i = length bytes - i
 
+behind-clear-blocks-requires : tie.Need-behind-clear-blocks-requires Inv-loop μ-loop
+behind-clear-blocks-requires c κs = search needs
+
 loop-holds : tie.Need-loop-holds Inv-loop μ-loop
-loop-holds c = refl
+loop-holds c = c .behind-clear-blocks .ensures
 
 shared-slice-read-if1 : tie.Need-shared-slice-read-if1 Inv-loop μ-loop
 shared-slice-read-if1 c = search needs
@@ -41,6 +44,7 @@ next-lf-spec =
     (tie.spec
     Inv-loop
     μ-loop
+    behind-clear-blocks-requires
     loop-holds
     shared-slice-read-if1
     returns

@@ -1,6 +1,6 @@
 -- `text::alphabet::first_stray` meets its contract. The invariant: searching on from i finds what searching from the start finds.
-use Prim.Native.Nat.{_≤_, _-_}
-use mathlib.Core.Path.{_≡_, refl, sym, _∙_}
+use Prim.Native.Nat.{_-_}
+use mathlib.Core.Path.{_≡_, sym, _∙_}
 use lib.ListN.{length, drop}
 use borrow.Author.Needs.{needs}
 use borrow.Author.Tests.{not-true, not-false}
@@ -10,13 +10,16 @@ use Rattle.text.proofs.alphabet.first_stray.Statement.{statement}
 use Rattle.text.proofs.alphabet.first_stray.Tie as tie
 
 abbrev Inv-loop : tie.InvT-loop
-Inv-loop alphabet part i₀ i = (i ≤ length part) × (firstStray alphabet i (drop i part) ≡ firstStray alphabet 0 part)
+Inv-loop alphabet part i₀ i = firstStray alphabet i (drop i part) ≡ firstStray alphabet 0 part
 
 abbrev μ-loop : tie.MeasureT-loop
 μ-loop alphabet part i₀ i = length part - i
 
+behind-pure-blocks-requires : tie.Need-behind-pure-blocks-requires Inv-loop μ-loop
+behind-pure-blocks-requires c κs = search needs
+
 loop-holds : tie.Need-loop-holds Inv-loop μ-loop
-loop-holds c = (search needs, refl)
+loop-holds c = c .behind-pure-blocks .ensures
 
 shared-slice-read-allows : tie.Need-shared-slice-read-allows Inv-loop μ-loop
 shared-slice-read-allows c = search needs
@@ -27,7 +30,7 @@ allows-requires c κs = search needs
 returns : tie.Need-returns Inv-loop μ-loop
 returns c =
     let l = c .before .before .before .before .loop in
-    sym (found _ _ _ (c .before .before .before .loop-test .taken) (sym (c .before .allows .ensures) ∙ not-true _ (c .if1 .taken))) ∙ l .inv .1
+    sym (found _ _ _ (c .before .before .before .loop-test .taken) (sym (c .before .allows .ensures) ∙ not-true _ (c .if1 .taken))) ∙ l .inv
 
 add-i : tie.Need-add-i Inv-loop μ-loop
 add-i c = search needs
@@ -38,12 +41,12 @@ loop-less c = search needs
 loop-again : tie.Need-loop-again Inv-loop μ-loop
 loop-again c =
     let l = c .before .before .before .before .loop in
-    (search needs, sym (passed _ _ _ (c .before .before .before .loop-test .taken) (sym (c .before .allows .ensures) ∙ not-false _ (c .if1 .left))) ∙ l .inv .1)
+    sym (passed _ _ _ (c .before .before .before .loop-test .taken) (sym (c .before .allows .ensures) ∙ not-false _ (c .if1 .left))) ∙ l .inv
 
 returns-2 : tie.Need-returns-2 Inv-loop μ-loop
 returns-2 c =
     let l = c .before .loop in
-    sym (ended _ _ (l .i) (c .loop-test .left)) ∙ l .inv .1
+    sym (ended _ _ (l .i) (c .loop-test .left)) ∙ l .inv
 
 pub first-stray-spec : {M : Type 1} → statement M
 first-stray-spec =
@@ -51,6 +54,7 @@ first-stray-spec =
     (tie.spec
     Inv-loop
     μ-loop
+    behind-pure-blocks-requires
     loop-holds
     shared-slice-read-allows
     allows-requires

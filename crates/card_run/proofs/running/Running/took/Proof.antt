@@ -1,86 +1,52 @@
--- `card_run::running::Running::took` meets its contract: the stage decides.
-use mathlib.Core.Path.{sym, _∙_, ap}
-use Rattle.card_run.specs.declared.stage.Stage.{Stage}
-use Rattle.card_run.specs.Running.{tookAt}
+-- `card_run::running::Running::took` meets its contract: whether the stage is open picks the case.
+use mathlib.Core.Path.{_≡_, refl, sym, _∙_}
+use mathlib.Core.Bool.{true, false, true≢false, false≢true}
 use borrow.Author.Needs.{needs}
+use Rattle.card_record.specs.declared.reading.Reading.{Reading}
+use Rattle.card_run.specs.declared.running.Running.{Running}
+use Rattle.card_run.specs.declared.stage.Stage.{Stage}
+use Rattle.card_run.specs.declared.stage.Stage.the-variants.{Start, BetweenBatches, InBatch, Ended, Closed, Refused}
+use Rattle.card_run.specs.Running.{judgedOf, tookAt, lateAt}
+use Rattle.card_run.specs.Stage.{isOpen}
 use Rattle.card_run.proofs.running.Running.took.Statement.{statement}
 use Rattle.card_run.proofs.running.Running.took.Tie as tie
 
-enum-told : tie.Need-enum-told
-enum-told c = search needs
+-- at an open stage a record is judged
+when-open : (s : Stage) (st : Running) (reading : Reading) → isOpen s ≡ true → judgedOf st reading ≡ tookAt s st reading
+unfolding tookAt
+when-open Start st reading e = refl
+when-open BetweenBatches st reading e = refl
+when-open InBatch st reading e = refl
+when-open Ended st reading e = absurd (false≢true e)
+when-open Closed st reading e = absurd (false≢true e)
+when-open (Refused r) st reading e = absurd (false≢true e)
 
-enum-told-2 : tie.Need-enum-told-2
-enum-told-2 c = search needs
+-- at any other it comes late
+when-not : (s : Stage) (st : Running) (reading : Reading) → isOpen s ≡ false → lateAt s st ≡ tookAt s st reading
+unfolding tookAt lateAt
+when-not Start st reading e = absurd (true≢false e)
+when-not BetweenBatches st reading e = absurd (true≢false e)
+when-not InBatch st reading e = absurd (true≢false e)
+when-not Ended st reading e = refl
+when-not Closed st reading e = refl
+when-not (Refused r) st reading e = refl
 
-refused-requires : tie.Need-refused-requires
-refused-requires c κs = search needs
-
-enum-told-3 : tie.Need-enum-told-3
-enum-told-3 c = search needs
-
-refused-requires-2 : tie.Need-refused-requires-2
-refused-requires-2 c κs = search needs
-
-enum-told-4 : tie.Need-enum-told-4
-enum-told-4 c = search needs
+is-open-requires : tie.Need-is-open-requires
+is-open-requires c κs = search needs
 
 judged-requires : tie.Need-judged-requires
 judged-requires c κs = search needs
 
-enum-told-5 : tie.Need-enum-told-5
-enum-told-5 c = search needs
-
-judged-requires-2 : tie.Need-judged-requires-2
-judged-requires-2 c κs = search needs
-
-enum-told-6 : tie.Need-enum-told-6
-enum-told-6 c = search needs
-
-judged-requires-3 : tie.Need-judged-requires-3
-judged-requires-3 c κs = search needs
-
 returns : tie.Need-returns
-unfolding tookAt
-returns c = ap (λ (s : Stage). tookAt s (c .before .before .args .self) (c .before .before .args .reading)) (sym (c .enum-told .given .1))
+returns c = c .judged .ensures ∙ when-open _ _ _ (sym (c .before .before .is-open .ensures) ∙ c .before .if1 .taken)
+
+took-late-requires : tie.Need-took-late-requires
+took-late-requires c κs = search needs
 
 returns-2 : tie.Need-returns-2
-unfolding tookAt
-returns-2 c = c .refused .ensures ∙ ap (λ (s : Stage). tookAt s (c .before .before .before .args .self) (c .before .before .before .args .reading)) (sym (c .before .enum-told2 .given .1))
-
-returns-3 : tie.Need-returns-3
-unfolding tookAt
-returns-3 c = c .refused2 .ensures ∙ ap (λ (s : Stage). tookAt s (c .before .before .before .args .self) (c .before .before .before .args .reading)) (sym (c .before .enum-told3 .given .1))
-
-returns-4 : tie.Need-returns-4
-unfolding tookAt
-returns-4 c = c .judged .ensures ∙ ap (λ (s : Stage). tookAt s (c .before .before .before .args .self) (c .before .before .before .args .reading)) (sym (c .before .enum-told4 .given .1))
-
-returns-5 : tie.Need-returns-5
-unfolding tookAt
-returns-5 c = c .judged2 .ensures ∙ ap (λ (s : Stage). tookAt s (c .before .before .before .args .self) (c .before .before .before .args .reading)) (sym (c .before .enum-told5 .given .1))
-
-returns-6 : tie.Need-returns-6
-unfolding tookAt
-returns-6 c = c .judged3 .ensures ∙ ap (λ (s : Stage). tookAt s (c .before .before .before .args .self) (c .before .before .before .args .reading)) (sym (c .before .enum-told6 .given .1))
+returns-2 c = c .took-late .ensures ∙ when-not _ _ _ (sym (c .before .before .is-open .ensures) ∙ c .before .if1 .left)
 
 pub took-spec : {M : Type 1} → statement M
 took-spec =
     tie.close
-    (tie.spec
-    enum-told
-    enum-told-2
-    refused-requires
-    enum-told-3
-    refused-requires-2
-    enum-told-4
-    judged-requires
-    enum-told-5
-    judged-requires-2
-    enum-told-6
-    judged-requires-3
-    returns
-    returns-2
-    returns-3
-    returns-4
-    returns-5
-    returns-6)
+    (tie.spec is-open-requires judged-requires returns took-late-requires returns-2)
