@@ -56,7 +56,7 @@ fn card_accepted(accepted: card_run::answer::Accepted) -> bool {
         && amounts(totals)
 }
 
-// The verdict of a file that was read to its end or refused.
+// The verdict of a file that was read to its end or refused; one that is going on has none, and none is printed.
 fn card_answer(answer: CardAnswer) -> bool {
     match answer {
         CardAnswer::GoingOn => false,
