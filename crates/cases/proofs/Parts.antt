@@ -4,7 +4,7 @@ use mathlib.Core.Path.{_≡_}
 use mathlib.Core.Bool.{true}
 use mathlib.Core.List.{List}
 use native.Mathlib.Omega.{arith}
-use lib.ListN.{length, take, drop, length-take, length-drop}
+use lib.ListN.{length, take, drop}
 use borrow.Author.Tests.{leb-true}
 use Rattle.cases.specs.Cursor.{hasMore}
 
@@ -17,7 +17,3 @@ pub between : (s : List ℕ) (at size : ℕ) → take (at + size - at) (drop at 
 between s at size =
     let e : at + size - at ≡ size = omega arith in
     rw e
-
--- the length of what stands behind the first bytes
-pub rest-length : (s : List ℕ) (done : ℕ) → length (take (length s - done) (drop done s)) ≡ length s - done
-rest-length s done = simp (length-take, length-drop) (omega arith)

@@ -3,7 +3,7 @@ use Prim.Native.Nat.{_≤_}
 use mathlib.Core.Path.{subst}
 use native.Mathlib.Omega.{arith}
 use lib.ListN.{length, length-take}
-use Rattle.cases.specs.Loaded.{loadedWithin}
+use Rattle.files.specs.Loaded.{loadedWithin}
 use borrow.Author.Needs.{needs}
 use Rattle.cases.proofs.file.told.Statement.{statement}
 use Rattle.cases.proofs.file.told.Tie as tie

@@ -1,13 +1,13 @@
--- `cases::file::read_all` meets its contract. The invariant: what is done lies within the buffer, which keeps its length.
+-- `files::reading::read_all` meets its contract. The invariant: what is done lies within the buffer, which keeps its length.
 -- Each turn leaves less of it free.
 use native.Mathlib.Omega.{arith}
-use Rattle.cases.specs.Loaded.{gotWithin}
+use Rattle.files.specs.Loaded.{gotWithin}
 use Prim.Native.Nat.{_≤_, _<_, _-_}
 use mathlib.Core.Path.{_≡_, subst}
 use lib.ListN.{length}
 use borrow.Author.Needs.{needs}
-use Rattle.cases.proofs.file.read_all.Statement.{statement}
-use Rattle.cases.proofs.file.read_all.Tie as tie
+use Rattle.files.proofs.reading.read_all.Statement.{statement}
+use Rattle.files.proofs.reading.read_all.Tie as tie
 
 abbrev Inv-loop : tie.InvT-loop
 Inv-loop fd buffer₀ done₀ buffer done = (done ≤ length buffer) × (length buffer ≡ length buffer₀)

@@ -1,11 +1,11 @@
--- `cases::file::read_more` meets its contract: what is free is as long as the buffer less what is done.
+-- `files::reading::read_more` meets its contract: what is free is as long as the buffer less what is done.
 use Prim.Native.Nat.{ℕ}
 use mathlib.Core.Path.{subst}
-use Rattle.cases.specs.Loaded.{gotWithin}
-use Rattle.cases.proofs.Parts.{rest-length}
+use Rattle.files.specs.Loaded.{gotWithin}
+use Rattle.files.proofs.Parts.{rest-length}
 use borrow.Author.Needs.{needs}
-use Rattle.cases.proofs.file.read_more.Statement.{statement}
-use Rattle.cases.proofs.file.read_more.Tie as tie
+use Rattle.files.proofs.reading.read_more.Statement.{statement}
+use Rattle.files.proofs.reading.read_more.Tie as tie
 
 sub-read-some : tie.Need-sub-read-some
 sub-read-some c = search needs

@@ -1,8 +1,8 @@
 -- What is promised of a file that was read into a buffer: the count lies within it.
 use Prim.Native.Nat.{ℕ, _≤_, _<_}
-use Rattle.cases.specs.declared.file.Loaded.{Loaded}
-use Rattle.cases.specs.declared.file.Loaded.the-variants.{Bytes, Failed, TooLong}
-use Rattle.cases.specs.declared.file.Got.{Got}
+use Rattle.files.specs.declared.reading.Loaded.{Loaded}
+use Rattle.files.specs.declared.reading.Loaded.the-variants.{Bytes, Failed, TooLong}
+use Rattle.files.specs.declared.reading.Got.{Got}
 
 -- a whole file lies within a buffer of this size
 abbrev pub loadedWithin : ℕ → Loaded → Type 0

@@ -1,0 +1,32 @@
+-- The temporary name of a file that is to have a path.
+use Prim.Native.Nat.{ℕ, suc, _+_, min}
+use mathlib.Core.Path.{_≡_}
+use mathlib.Core.List.{List, [], _∷_, _++_}
+use mathlib.Core.Bool.{cond}
+use lib.ListN.{length, take}
+use lib.Dec.{eqb, ltb}
+use Rattle.text.specs.Literal.{ascii}
+use Rattle.io.specs.Counts.{Counts}
+use Rattle.io.specs.Digits.{digits, Fewest}
+
+-- how many bytes stand up to the last '/' and with it; 0 where there is none
+unfoldable pub folderSize : List ℕ → ℕ
+folderSize [] = 0
+folderSize (b ∷ s) = cond (ltb 0 (folderSize s)) (suc (folderSize s)) (cond (eqb b 47) 1 0)
+
+-- the folder's part of a path; of a folder longer than any path can be, more than a path can hold
+abbrev pub folderOf : List ℕ → List ℕ
+folderOf path = take (min (folderSize path) 4096) path
+
+-- a text was put behind the first bytes of a buffer
+pub record Put (text : List ℕ) (before : List ℕ) (at end : ℕ) (after : List ℕ) : Type 0 where
+  pub size : end ≡ at + length text
+  pub content : take end after ≡ take at before ++ text
+  pub same : length after ≡ length before
+
+-- the first bytes of a buffer are the folder, ".lossivurn-" and the number, with no zero in front
+pub record Named (path : List ℕ) (number size : ℕ) (name : List ℕ) : Type 0 where
+  pub counts : Counts size name
+  pub count : ℕ
+  pub fewest : Fewest 10 1 number count
+  pub content : take size name ≡ (folderOf path ++ ascii ".lossivurn-") ++ digits 10 count number

@@ -1,0 +1,71 @@
+#!/usr/bin/env python3
+"""Writes the files of samples/, and the same files where the programs' own runs take them from. All is made up, and the card numbers are the card
+brands' own test numbers.
+
+    tests/samples.py
+"""
+import pathlib
+
+from made import SALE, card_file, payroll_file
+
+ROOT = pathlib.Path(__file__).resolve().parent.parent
+
+
+def sale(store, gross, discount, card, **other):
+    return {**SALE, "store": store, "gross": gross, "discount": discount, "card": card, **other}
+
+
+def instalment(number, of, gross, discount):
+    return dict(product=b"C", instalment=number, instalments=of, instalment_nsu=number, instalment_gross=gross, instalment_discount=discount)
+
+
+# Payable: 10000 - 250, 25990 - 650; 15000 - 375, 15000 - 375; and a batch of no sale.
+DAY = [
+    [sale(b"POSTO AURORA", 10000, 250, b"4111111111111111"),
+     sale(b"POSTO AURORA", 25990, 650, b"5555555555554444", nsu=2, capture=7)],
+    [sale(b"POSTO DO LAGO", 30000, 750, b"4012888888881881", nsu=3, **instalment(1, 2, 15000, 375)),
+     sale(b"POSTO DO LAGO", 30000, 750, b"378282246310005", nsu=4, **instalment(2, 2, 15000, 375))],
+    [],
+]
+
+# Its day sheet: edition 2, 15 November 2023, movement 42, 3 batches, 4 sales, and the totals of what is payable.
+SHEET = b"DSH" + bytes([0, 1, 2]) + b"20231115" b"000042" + b"".join(
+    number.to_bytes(width, "big") for number, width in ((3, 4), (4, 4), (65990, 8), (1650, 8), (64340, 8)))
+
+WAGES = [
+    [(b"ANA SOUZA", 412350), (b"BRUNO LIMA", 388000)],
+    [(b"CARLA DIAS", 501275)],
+]
+
+
+def refused():
+    """Document 01's example: a file of one cash sale, whose CV is numbered 000004."""
+    a0, l0, cv, l9, a9 = card_file([[SALE]])
+    return [a0, l0, cv.replace(b"000003\r\n", b"000004\r\n"), l9, a9]
+
+
+FILES = {
+    "day.card": b"".join(card_file(DAY)),
+    "refused.card": b"".join(refused()),
+    "wages.payroll": b"".join(payroll_file(WAGES)),
+    "day.sheet": SHEET,
+}
+
+# What a program is run on: its standard input, or its data.
+RUNS = {
+    "card/stdin": "day.card",
+    "mask/data/day.card": "day.card",
+    "payroll/stdin": "wages.payroll",
+    "sheet/data/day.sheet": "day.sheet",
+}
+
+
+def main():
+    for name, content in FILES.items():
+        (ROOT / "samples" / name).write_bytes(content)
+    for place, name in RUNS.items():
+        (ROOT / "crates" / place).write_bytes(FILES[name])
+
+
+if __name__ == "__main__":
+    main()
