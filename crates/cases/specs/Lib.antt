@@ -1,3 +1,7 @@
 pub mod Cursor
+pub mod Cuts
 pub mod Hash
+pub mod Hex
 pub mod Loaded
+pub mod Output
+pub mod Row

@@ -7,30 +7,14 @@ use cases::cursor::Number;
 use cases::cursor::Place;
 use cases::file;
 use cases::hash;
+use cases::output;
 use cases::print;
-
-// The byte that an output begins with, and how much each byte is more than the one before it.
-const FIRST: u8 = 3;
-
-const STEP: u8 = 7;
-
-// Fills an output as every case finds it: byte i is (i * 7 + 3) mod 256.
-fn fill(out: &mut [u8]) {
-    let mut byte = FIRST;
-    let mut i = 0;
-    while i < out.len() {
-        out[i] = byte;
-        byte = std::num::wrapping_add_u8(byte, STEP);
-        i += 1;
-    }
-}
 
 // Masks a file into an output, and prints the answer and the output's hash, a line.
 fn print_answer(edition: u64, file: &[u8], out: &mut [u8]) {
-    fill(out);
+    output::fill(out);
     answer::print_card_answer(card_mask::mask(edition, file, out));
-    print::text(b" ");
-    print::number(hash::hash(out));
+    answer::next_number(hash::hash(out));
     print::text(b"\n");
 }
 

@@ -12,19 +12,13 @@ use payroll_file::answer::PayrollAnswer;
 mod made;
 mod record;
 
-// A blank, and a number.
-fn print_next(n: u64) {
-    print::text(b" ");
-    print::number(n);
-}
-
 // `A records batches payments amount`
 fn print_accepted(accepted: Accepted) {
     print::text(b"A");
-    print_next(accepted.records);
-    print_next(accepted.batches);
-    print_next(accepted.payments);
-    print_next(accepted.amount);
+    answer::next_number(accepted.records);
+    answer::next_number(accepted.batches);
+    answer::next_number(accepted.payments);
+    answer::next_number(accepted.amount);
 }
 
 // Prints the answer of a file, a line.

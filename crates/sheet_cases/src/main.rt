@@ -3,7 +3,6 @@ use cases::file;
 use cases::print;
 
 mod of_file;
-mod output;
 mod reading;
 mod writing;
 

@@ -1,5 +1,4 @@
 // The day sheet of a card file. A case is an edition, the output's length, and the file.
-use crate::output;
 use cases::answer;
 use cases::cursor::Cursor;
 use cases::cursor::EDITION_BYTES;
@@ -7,13 +6,14 @@ use cases::cursor::LENGTH_BYTES;
 use cases::cursor::Number;
 use cases::cursor::Place;
 use cases::hash;
+use cases::output;
 use cases::print;
 
 // Writes a file's sheet into an output, and prints the answer and the output's hash, a line.
 fn print_answer(edition: u64, file: &[u8], out: &mut [u8]) {
     output::fill(out);
     answer::print_card_answer(card_sheet::sheet_of(edition, file, out));
-    output::print_next(hash::hash(out));
+    answer::next_number(hash::hash(out));
     print::text(b"\n");
 }
 

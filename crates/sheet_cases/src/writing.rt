@@ -1,11 +1,11 @@
 // Sheets to write. A case is the output's length, and the numbers of a sheet.
-use crate::output;
 use cases::answer;
 use cases::cursor::Cursor;
 use cases::cursor::LENGTH_BYTES;
 use cases::cursor::Number;
 use cases::cursor::Place;
 use cases::hash;
+use cases::output;
 use cases::print;
 use day_sheet::sheet::Sheet;
 use day_sheet::writer::SheetWritten;
@@ -100,7 +100,7 @@ fn print_answer(sheet: Sheet, out: &mut [u8]) {
         SheetWritten::Written => print::text(b"A"),
         SheetWritten::Refused(refusal) => answer::print_refusal(refusal),
     }
-    output::print_next(hash::hash(out));
+    answer::next_number(hash::hash(out));
     print::text(b"\n");
 }
 

@@ -1,5 +1,7 @@
-// What the lines and the outputs of the cases have in common.
-use cases::print;
+// The outputs that cases write into.
+ghost use mathlib.Core.Path.{_≡_};
+ghost use lib.ListN.{length};
+ghost use Rattle.cases.specs.Output.{pattern};
 
 // The byte that an output begins with, and how much each byte is more than the one before it.
 const FIRST: u8 = 3;
@@ -7,7 +9,9 @@ const FIRST: u8 = 3;
 const STEP: u8 = 7;
 
 // Fills an output as every case finds it: byte i is (i * 7 + 3) mod 256.
-pub fn fill(out: &mut [u8]) {
+pub fn fill(out: &mut [u8])
+    ensures { λ _. ⌜ now (out .exit) ≡ pattern (length (now (out .entry))) ⌝ }
+{
     let mut byte = FIRST;
     let mut i = 0;
     while i < out.len() {
@@ -15,10 +19,4 @@ pub fn fill(out: &mut [u8]) {
         byte = std::num::wrapping_add_u8(byte, STEP);
         i += 1;
     }
-}
-
-// Prints a blank, and a number.
-pub fn print_next(n: u64) {
-    print::text(b" ");
-    print::number(n);
 }
