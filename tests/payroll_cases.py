@@ -12,18 +12,11 @@ computes an answer, and no program under test was asked for one. Where a program
 
 A line is `A records batches payments amount` or `R number record column`.
 """
-import pathlib
-import sys
-
-CRATE = pathlib.Path(__file__).resolve().parent.parent / "crates" / "payroll_cases"
+from records import CRLF, put
+from records import whole as lines
+from stored import number, run, write_cases, write_stdout
 
 # ---- How a file is built -------------------------------------------------------------------------------------------------------------------
-
-
-def put(record, position, text):
-    """The record with this text from this position on; positions count from 1."""
-    assert position - 1 + len(text) <= len(record)
-    return record[:position - 1] + text + record[position - 1 + len(text):]
 
 
 def record(front, *fields):
@@ -43,12 +36,7 @@ PZ = record(b"42200013" b"00003" b"Z")
 T1 = record(b"42200015", (18, b"000003"), (24, b"000000000000123456"))
 F = record(b"42299999", (18, b"000001"), (24, b"000005"))
 
-CRLF = b"\r\n"
 END = b"\x1a"
-
-
-def lines(*records):
-    return b"".join(r + CRLF for r in records)
 
 
 def whole(*records):
@@ -319,25 +307,10 @@ case("an earlier record before a later one", whole(H, B1, put(PA, 120, b"x"), T1
 # ---- Writing them ------------------------------------------------------------------------------------------------------------------------------
 
 
-def write():
-    """The cases into own.cases, and the lines behind `own` and `made` into stdout; answers how many lines stand before them."""
-    (CRATE / "data" / "own.cases").write_bytes(b"".join(len(file).to_bytes(4, "big") + file for _, file, _ in CASES))
-    stdout = CRATE / "stdout"
-    lines_there = stdout.read_text().split("\n")
-    kept = lines_there[:lines_there.index("own") + 1]
-    stdout.write_text("\n".join(kept + [line for _, _, line in CASES] + ["made"] + [line for _, line in MADE]) + "\n")
-    return len(kept)
-
-
 def main():
-    if sys.argv[1:] not in ([], ["--list"]):
-        sys.exit(__doc__)
-    before = write()
-    if sys.argv[1:]:
-        for i, (name, _, line) in enumerate(CASES):
-            print(f"stdout:{before + i + 1}: {name}: {line}")
-        for i, (name, line) in enumerate(MADE):
-            print(f"stdout:{before + len(CASES) + i + 2}: {name}: {line}")
+    write_cases("payroll_cases", "own.cases", (number(len(file)) + file for _, file, _ in CASES))
+    write_stdout("payroll_cases", [("own", [(name, line) for name, _, line in CASES]), ("made", MADE)])
 
 
-main()
+if __name__ == "__main__":
+    run(main, __doc__)
