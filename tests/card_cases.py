@@ -7,15 +7,17 @@
 It writes
     crates/card_cases/data/own.cases    whole files:          edition (1 byte), length (4), the file
     crates/feed_cases/data/own.cases    record by record:     edition (1), length (4), the calls: length (4) and a record, or FFFFFFFF to close
-and what stands behind the line `own` in crates/card_cases/stdout and crates/feed_cases/stdout.
+and what stands from the line `own` on in crates/card_cases/stdout and crates/feed_cases/stdout: the lines of whole files, and the same lines again for
+the files in chunks, where the outside cases' lines are repeated too.
 
 A case is a name, how its file is built, and the line that document 01 gives it. The lines are written here by hand: nothing in this script
 computes an answer, and no program under test was asked for one. Where a program prints another line, document 01 decides which is right.
 
 A line is `A date movement records batches sales gross discount net` or `R number record column`; a fed case has one for each call, `-` for none.
+Behind the answer of a file that is cut in two at every place stands how many cuts have that answer: as many as the file has bytes, and one.
 """
 from records import A0, A9, ACCEPTED, CRLF, CV, FIVE, L0, L9, numbered, put, sale, whole
-from stored import number, run, write_cases, write_stdout
+from stored import cut_at_every_place, number, outside, run, write_cases, write_stdout
 
 # ---- How a file is built -------------------------------------------------------------------------------------------------------------------
 
@@ -407,7 +409,12 @@ def call(record):
 
 def main():
     write_cases("card_cases", "own.cases", (bytes([edition]) + number(len(file)) + file for _, edition, file, _ in CARD))
-    write_stdout("card_cases", [("own", [(name, line) for name, _, _, line in CARD])])
+    own = [(name, line) for name, _, _, line in CARD]
+    write_stdout("card_cases", [
+        ("own", own),
+        ("outside, in chunks", outside("card_cases")),
+        ("own, in chunks", own),
+        ("own, cut at every place", cut_at_every_place([(name, file, line) for name, _, file, line in CARD], 400))])
     fed = [(edition, b"".join(map(call, calls))) for _, edition, calls, _ in FEED]
     write_cases("feed_cases", "own.cases", (bytes([edition]) + number(len(calls)) + calls for edition, calls in fed))
     write_stdout("feed_cases", [("own", [(name, line) for name, _, _, line in FEED])])

@@ -4,16 +4,18 @@
     tests/mask_cases.py           write the files below
     tests/mask_cases.py --list    and print where in `stdout` each case stands, its name and its answer
 
-It writes crates/mask_cases/data/own.cases (edition (1 byte), the output's length (4), length (4), the file) and what stands behind the line `own`
-in crates/mask_cases/stdout.
+It writes crates/mask_cases/data/own.cases (edition (1 byte), the output's length (4), length (4), the file) and what stands from the line `own` on in
+crates/mask_cases/stdout: the lines of files masked whole, and the same lines again for the files in chunks, where the outside cases' lines are repeated
+too. There the cases whose output has no room for the file are left out.
 
 A case is a name, a file, the line that document 01 gives it, and what the output begins with after the call. All of these are written here by
 hand; only the hash that stands for the output's bytes in a line is computed. No program under test was asked for an answer.
 
 A line is `A date movement records batches sales gross discount net` or `R number record column`, and the hash of the whole output.
+Behind the line of a file that is cut in two at every place stands how many cuts have the same line: as many as the file has bytes, and one.
 """
 from records import A0, A9, ACCEPTED, CV, FIVE, L0, L9, numbered, put, sale, whole
-from stored import hashed, number, output, run, write_cases, write_stdout
+from stored import cut_at_every_place, hashed, number, outside, output, read_cases, run, write_cases, write_stdout
 
 # ---- How a file is built -------------------------------------------------------------------------------------------------------------------
 
@@ -149,10 +151,26 @@ case("13: the output too short for the bytes after the end", FIVE + b"x", "R 2 0
 # ---- Writing them --------------------------------------------------------------------------------------------------------------------------
 
 
+def outside_with_room():
+    """The outside cases whose output has room for the file: 2 is no answer of a file in chunks."""
+    there, at, fits = read_cases("mask_cases", "outside.cases"), 0, []
+    while at < len(there):
+        size, length = (int.from_bytes(there[i:i + 4], "big") for i in (at + 1, at + 5))
+        fits.append(length <= size)
+        at += 9 + length
+    return [case for case, fit in zip(outside("mask_cases"), fits, strict=True) if fit]
+
+
 def main():
     write_cases("mask_cases", "own.cases",
                 (bytes([edition]) + number(size) + number(len(file)) + file for _, edition, size, file, _, _ in CASES))
-    write_stdout("mask_cases", [("own", [(name, f"{line} {hashed(output(size, front))}") for name, _, size, _, line, front in CASES])])
+    own = [(name, size, file, f"{line} {hashed(output(size, front))}") for name, _, size, file, line, front in CASES]
+    with_room = [(name, file, line) for name, size, file, line in own if len(file) <= size]
+    write_stdout("mask_cases", [
+        ("own", [(name, line) for name, _, _, line in own]),
+        ("outside, in chunks", outside_with_room()),
+        ("own, in chunks", [(name, line) for name, _, line in with_room]),
+        ("own, cut at every place", cut_at_every_place(with_room, 400))])
 
 
 if __name__ == "__main__":

@@ -4,17 +4,19 @@
     tests/payroll_cases.py           write the files below
     tests/payroll_cases.py --list    and print where in `stdout` each case stands, its name and its answer
 
-It writes crates/payroll_cases/data/own.cases (length (4 bytes), the file) and what stands behind the lines `own` and `made` in
-crates/payroll_cases/stdout. The files behind `made` are too long to be kept: the program makes them itself (src/made.rt).
+It writes crates/payroll_cases/data/own.cases (length (4 bytes), the file) and what stands from the line `own` on in crates/payroll_cases/stdout: the
+lines of whole files, those of `made`, which are too long to be kept and which the program makes itself (src/made.rt), and the lines of whole files again
+for the same files in chunks, where the outside cases' lines are repeated too.
 
 A case is a name, how its file is built, and the line that document 01 gives it. The lines are written here by hand: nothing in this script
 computes an answer, and no program under test was asked for one. Where a program prints another line, document 01 decides which is right.
 
 A line is `A records batches payments amount` or `R number record column`.
+Behind the answer of a file that is cut in two at every place stands how many cuts have that answer: as many as the file has bytes, and one.
 """
 from records import CRLF, put
 from records import whole as lines
-from stored import number, run, write_cases, write_stdout
+from stored import cut_at_every_place, number, outside, run, write_cases, write_stdout
 
 # ---- How a file is built -------------------------------------------------------------------------------------------------------------------
 
@@ -309,7 +311,13 @@ case("an earlier record before a later one", whole(H, B1, put(PA, 120, b"x"), T1
 
 def main():
     write_cases("payroll_cases", "own.cases", (number(len(file)) + file for _, file, _ in CASES))
-    write_stdout("payroll_cases", [("own", [(name, line) for name, _, line in CASES]), ("made", MADE)])
+    own = [(name, line) for name, _, line in CASES]
+    write_stdout("payroll_cases", [
+        ("own", own),
+        ("made", MADE),
+        ("outside, in chunks", outside("payroll_cases")),
+        ("own, in chunks", own),
+        ("own, cut at every place", cut_at_every_place(CASES, 1000))])
 
 
 if __name__ == "__main__":

@@ -12,13 +12,13 @@ It writes
 and what stands behind the lines `own read`, `own write` and `own of a file` in crates/sheet_cases/stdout.
 
 A case is a name, its bytes or numbers, and the line that document 01 gives it. The lines are written here by hand, and so are the bytes that
-an output holds after the call; only the hash that stands for those bytes in a line is computed. No program under test was asked for an answer.
+an output holds after the call. No program under test was asked for an answer.
 
 A line of a sheet to read is `A edition date movement batches sales gross discount net` or `R number record column`; of a sheet to write, `A` or
-`R number record column`, and the hash of the whole output; of a file's sheet, the answer of the card file and that hash.
+`R number record column`, and the whole output in hex between brackets; of a file's sheet, the answer of the card file and that output.
 """
 from records import ACCEPTED, FIVE
-from stored import hashed, number, output, run, write_cases, write_stdout
+from stored import number, output, run, write_cases, write_stdout
 
 # ---- How a sheet is built ------------------------------------------------------------------------------------------------------------------
 
@@ -213,8 +213,8 @@ def main():
                 (bytes([edition]) + number(size) + number(len(content)) + content for _, edition, size, content, _, _ in OF_FILE))
     write_stdout("sheet_cases", [
         ("own read", [(name, line) for name, _, line in READ]),
-        ("own write", [(name, f"{line} {hashed(output(size, front))}") for name, size, _, line, front in WRITE]),
-        ("own of a file", [(name, f"{line} {hashed(output(size, front))}") for name, _, size, _, line, front in OF_FILE])])
+        ("own write", [(name, f"{line} [{output(size, front).hex()}]") for name, size, _, line, front in WRITE]),
+        ("own of a file", [(name, f"{line} [{output(size, front).hex()}]") for name, _, size, _, line, front in OF_FILE])])
 
 
 if __name__ == "__main__":

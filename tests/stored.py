@@ -23,6 +23,22 @@ def hashed(content):
     return h
 
 
+def outside(crate):
+    """The names and lines of a crate's outside cases, which its `stdout` begins with."""
+    there = (CRATES / crate / "stdout").read_text().split("\n")
+    return [(f"outside case {i}", line) for i, line in enumerate(there[1:there.index("own")], 1)]
+
+
+def cut_at_every_place(cases, longest):
+    """The names and lines of the files, no longer than this, that are cut in two at every place: the answer holds for as many cuts as the file has
+    bytes, and one. A case is a name, a file and a line."""
+    return [(name, f"{line} {len(file) + 1} cuts alike") for name, file, line in cases if len(file) <= longest]
+
+
+def read_cases(crate, name):
+    return (CRATES / crate / "data" / name).read_bytes()
+
+
 def write_cases(crate, name, cases):
     (CRATES / crate / "data" / name).write_bytes(b"".join(cases))
 
