@@ -7,52 +7,21 @@
 It writes
     crates/card_cases/data/own.cases    whole files:          edition (1 byte), length (4), the file
     crates/feed_cases/data/own.cases    record by record:     edition (1), length (4), the calls: length (4) and a record, or FFFFFFFF to close
-and what stands behind the line `own` in crates/card_cases/stdout and crates/feed_cases/stdout.
+and what stands from the line `own` on in crates/card_cases/stdout and crates/feed_cases/stdout: the lines of whole files, and the same lines again for
+the files in chunks, where the outside cases' lines are repeated too.
 
 A case is a name, how its file is built, and the line that document 01 gives it. The lines are written here by hand: nothing in this script
 computes an answer, and no program under test was asked for one. Where a program prints another line, document 01 decides which is right.
 
 A line is `A date movement records batches sales gross discount net` or `R number record column`; a fed case has one for each call, `-` for none.
+Behind the answer of a file that is cut in two at every place stands how many cuts have that answer: as many as the file has bytes, and one.
 """
-import pathlib
-import sys
-
-CRATES = pathlib.Path(__file__).resolve().parent.parent / "crates"
+from records import A0, A9, ACCEPTED, CRLF, CV, FIVE, L0, L9, numbered, put, sale, whole
+from stored import cut_at_every_place, number, outside, run, write_cases, write_stdout
 
 # ---- How a file is built -------------------------------------------------------------------------------------------------------------------
 
-A0 = (b"A0" b"001.7d" b"20231115" b"083000" b"000042" + b"REDE DE POSTOS".ljust(30) + b"0101" b"000777" b"N" b"000001")
-L0 = b"L0" b"20231115" b"RE" b"000002"
-# A cash sale of 10000 = 250 + 9750: instalment 00 of 00, and zero in 111, 123, 134 and 145.
-CV = (b"CV" + b"POSTO 7".ljust(15) + b"000000012345" b"20231114" b"235959" b"1" b"20231215" b"D" b"1"
-      b"00000010000" b"00000000250" b"00000009750" b"0004111111111111111" b"00" b"00" b"000000000000"
-      b"00000000000" b"00000000000" b"00000000000" b"422" b"000123" + b"45678-9".ljust(11) + b"000000998877" b"001" b"010" b"000003")
-L9 = b"L9" b"000001" b"00000000010000" b"000004"
-A9 = b"A9" b"000005" b"000005"
-assert [len(r) for r in (A0, L0, CV, L9, A9)] == [75, 18, 199, 28, 14]
-
-CRLF = b"\r\n"
 CLOSE = None
-
-
-def put(record, position, text):
-    """The record with this text from this position on; positions count from 1."""
-    assert position - 1 + len(text) <= len(record)
-    return record[:position - 1] + text + record[position - 1 + len(text):]
-
-
-def numbered(record, number):
-    """The record with this NSEQ, which is the last six bytes of every kind."""
-    return put(record, len(record) - 5, b"%06d" % number)
-
-
-def whole(*records):
-    return b"".join(record + CRLF for record in records)
-
-
-def sale(cv):
-    """The file of five records with this CV."""
-    return whole(A0, L0, cv, L9, A9)
 
 
 def head(a0):
@@ -70,9 +39,6 @@ def batch_end(l9):
 def end(a9):
     return whole(A0, L0, CV, L9, a9)
 
-
-FIVE = whole(A0, L0, CV, L9, A9)
-ACCEPTED = "A 20231115 000042 5 1 1 10000 250 9750"
 
 CARD, FEED = [], []
 
@@ -437,38 +403,22 @@ feed("three instalments", [A0, L0, FIRST_OF_3, SECOND_OF_3, THIRD_OF_3, L9_OF_3,
 # ---- Writing them ------------------------------------------------------------------------------------------------------------------------------
 
 
-def number(n):
-    return n.to_bytes(4, "big")
-
-
 def call(record):
     return b"\xff\xff\xff\xff" if record is CLOSE else number(len(record)) + record
 
 
-def write(crate, cases):
-    """The cases (edition, bytes, line) into the crate's own.cases, and their lines behind `own` in its stdout."""
-    data = b"".join(bytes([edition]) + number(len(content)) + content for edition, content, _ in cases)
-    (CRATES / crate / "data" / "own.cases").write_bytes(data)
-    stdout = CRATES / crate / "stdout"
-    lines = stdout.read_text().split("\n")
-    kept = lines[:lines.index("own") + 1]
-    stdout.write_text("\n".join(kept + [line for _, _, line in cases]) + "\n")
-    return len(kept)
-
-
-def show(crate, before, cases):
-    for i, (name, _, _, line) in enumerate(cases):
-        print(f"{crate}/stdout:{before + i + 1}: {name}: {line}")
-
-
 def main():
-    if sys.argv[1:] not in ([], ["--list"]):
-        sys.exit(__doc__)
-    before_card = write("card_cases", [(edition, file, line) for _, edition, file, line in CARD])
-    before_feed = write("feed_cases", [(edition, b"".join(map(call, calls)), line) for _, edition, calls, line in FEED])
-    if sys.argv[1:]:
-        show("card_cases", before_card, CARD)
-        show("feed_cases", before_feed, FEED)
+    write_cases("card_cases", "own.cases", (bytes([edition]) + number(len(file)) + file for _, edition, file, _ in CARD))
+    own = [(name, line) for name, _, _, line in CARD]
+    write_stdout("card_cases", [
+        ("own", own),
+        ("outside, in chunks", outside("card_cases")),
+        ("own, in chunks", own),
+        ("own, cut at every place", cut_at_every_place([(name, file, line) for name, _, file, line in CARD], 400))])
+    fed = [(edition, b"".join(map(call, calls))) for _, edition, calls, _ in FEED]
+    write_cases("feed_cases", "own.cases", (bytes([edition]) + number(len(calls)) + calls for edition, calls in fed))
+    write_stdout("feed_cases", [("own", [(name, line) for name, _, _, line in FEED])])
 
 
-main()
+if __name__ == "__main__":
+    run(main, __doc__)

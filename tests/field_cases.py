@@ -13,10 +13,7 @@ by hand; only the hash that stands for a part's bytes is computed. No program un
 
 A line is `P length hash` of the part handed back, or `R number record column`.
 """
-import pathlib
-import sys
-
-CRATE = pathlib.Path(__file__).resolve().parent.parent / "crates" / "field_cases"
+from stored import hashed, number, run, write_cases, write_stdout
 
 # ---- The record's fields, 1 to 26 ------------------------------------------------------------------------------------------------------------
 
@@ -52,31 +49,15 @@ CASES += [
 # ---- Writing them ------------------------------------------------------------------------------------------------------------------------------
 
 
-def number(n):
-    return n.to_bytes(4, "big")
-
-
 def line(answer):
     """The line of a refusal, or of a part's bytes."""
-    if isinstance(answer, str):
-        return answer
-    h = 0
-    for byte in answer:
-        h = (h * 31 + byte) % 2**32
-    return f"P {len(answer)} {h}"
+    return answer if isinstance(answer, str) else f"P {len(answer)} {hashed(answer)}"
 
 
 def main():
-    if sys.argv[1:] not in ([], ["--list"]):
-        sys.exit(__doc__)
-    (CRATE / "data" / "own.cases").write_bytes(b"".join(number(field) + number(len(record)) + record for _, field, record, _ in CASES))
-    stdout = CRATE / "stdout"
-    there = stdout.read_text().split("\n")
-    kept = there[:there.index("own") + 1]
-    stdout.write_text("\n".join(kept + [line(answer) for _, _, _, answer in CASES]) + "\n")
-    if sys.argv[1:]:
-        for i, (name, _, _, answer) in enumerate(CASES):
-            print(f"stdout:{len(kept) + i + 1}: {name}: {line(answer)}")
+    write_cases("field_cases", "own.cases", (number(field) + number(len(record)) + record for _, field, record, _ in CASES))
+    write_stdout("field_cases", [("own", [(name, line(answer)) for name, _, _, answer in CASES])])
 
 
-main()
+if __name__ == "__main__":
+    run(main, __doc__)

@@ -4,51 +4,22 @@
     tests/mask_cases.py           write the files below
     tests/mask_cases.py --list    and print where in `stdout` each case stands, its name and its answer
 
-It writes crates/mask_cases/data/own.cases (edition (1 byte), the output's length (4), length (4), the file) and what stands behind the line `own`
-in crates/mask_cases/stdout.
+It writes crates/mask_cases/data/own.cases (edition (1 byte), the output's length (4), length (4), the file) and what stands from the line `own` on in
+crates/mask_cases/stdout: the lines of files masked whole, and the same lines again for the files in chunks, where the outside cases' lines are repeated
+too. There the cases whose output has no room for the file are left out.
 
 A case is a name, a file, the line that document 01 gives it, and what the output begins with after the call. All of these are written here by
 hand; only the hash that stands for the output's bytes in a line is computed. No program under test was asked for an answer.
 
 A line is `A date movement records batches sales gross discount net` or `R number record column`, and the hash of the whole output.
+Behind the line of a file that is cut in two at every place stands how many cuts have the same line: as many as the file has bytes, and one.
 """
-import pathlib
-import sys
-
-CRATE = pathlib.Path(__file__).resolve().parent.parent / "crates" / "mask_cases"
+from records import A0, A9, ACCEPTED, CV, FIVE, L0, L9, numbered, put, sale, whole
+from stored import cut_at_every_place, hashed, number, outside, output, read_cases, run, write_cases, write_stdout
 
 # ---- How a file is built -------------------------------------------------------------------------------------------------------------------
 
-A0 = (b"A0" b"001.7d" b"20231115" b"083000" b"000042" + b"REDE DE POSTOS".ljust(30) + b"0101" b"000777" b"N" b"000001")
-L0 = b"L0" b"20231115" b"RE" b"000002"
-# A cash sale of 10000 = 250 + 9750, whose card of sixteen is 4111111111111111.
-CV = (b"CV" + b"POSTO 7".ljust(15) + b"000000012345" b"20231114" b"235959" b"1" b"20231215" b"D" b"1"
-      b"00000010000" b"00000000250" b"00000009750" b"0004111111111111111" b"00" b"00" b"000000000000"
-      b"00000000000" b"00000000000" b"00000000000" b"422" b"000123" + b"45678-9".ljust(11) + b"000000998877" b"001" b"010" b"000003")
-L9 = b"L9" b"000001" b"00000000010000" b"000004"
-A9 = b"A9" b"000005" b"000005"
-assert [len(r) for r in (A0, L0, CV, L9, A9)] == [75, 18, 199, 28, 14]
 CARD = 88
-
-
-def put(record, position, text):
-    """The record with this text from this position on; positions count from 1."""
-    assert position - 1 + len(text) <= len(record)
-    return record[:position - 1] + text + record[position - 1 + len(text):]
-
-
-def numbered(record, number):
-    """The record with this NSEQ, which is the last six bytes of every kind."""
-    return put(record, len(record) - 5, b"%06d" % number)
-
-
-def whole(*records):
-    return b"".join(record + b"\r\n" for record in records)
-
-
-def sale(cv):
-    """The file of five records with this CV."""
-    return whole(A0, L0, cv, L9, A9)
 
 
 def carded(card):
@@ -56,9 +27,7 @@ def carded(card):
     return sale(put(CV, CARD, card))
 
 
-FIVE = sale(CV)
 MASKED_FIVE = carded(b"000411111******1111")
-ACCEPTED = "A 20231115 000042 5 1 1 10000 250 9750"
 
 CASES = []
 
@@ -182,32 +151,27 @@ case("13: the output too short for the bytes after the end", FIVE + b"x", "R 2 0
 # ---- Writing them --------------------------------------------------------------------------------------------------------------------------
 
 
-def number(n):
-    return n.to_bytes(4, "big")
-
-
-def hashed(size, front):
-    """The hash of an output of this size that begins with `front` and is else as every case finds it."""
-    before = bytes((i * 7 + 3) % 256 for i in range(size))
-    h = 0
-    for byte in front + before[len(front):]:
-        h = (h * 31 + byte) % 2**32
-    return h
+def outside_with_room():
+    """The outside cases whose output has room for the file: 2 is no answer of a file in chunks."""
+    there, at, fits = read_cases("mask_cases", "outside.cases"), 0, []
+    while at < len(there):
+        size, length = (int.from_bytes(there[i:i + 4], "big") for i in (at + 1, at + 5))
+        fits.append(length <= size)
+        at += 9 + length
+    return [case for case, fit in zip(outside("mask_cases"), fits, strict=True) if fit]
 
 
 def main():
-    if sys.argv[1:] not in ([], ["--list"]):
-        sys.exit(__doc__)
-    (CRATE / "data" / "own.cases").write_bytes(b"".join(
-        bytes([edition]) + number(size) + number(len(file)) + file for _, edition, size, file, _, _ in CASES))
-    lines = [(name, f"{line} {hashed(size, front)}") for name, _, size, _, line, front in CASES]
-    stdout = CRATE / "stdout"
-    there = stdout.read_text().split("\n")
-    kept = there[:there.index("own") + 1]
-    stdout.write_text("\n".join(kept + [line for _, line in lines]) + "\n")
-    if sys.argv[1:]:
-        for i, (name, line) in enumerate(lines):
-            print(f"stdout:{len(kept) + i + 1}: {name}: {line}")
+    write_cases("mask_cases", "own.cases",
+                (bytes([edition]) + number(size) + number(len(file)) + file for _, edition, size, file, _, _ in CASES))
+    own = [(name, size, file, f"{line} {hashed(output(size, front))}") for name, _, size, file, line, front in CASES]
+    with_room = [(name, file, line) for name, size, file, line in own if len(file) <= size]
+    write_stdout("mask_cases", [
+        ("own", [(name, line) for name, _, _, line in own]),
+        ("outside, in chunks", outside_with_room()),
+        ("own, in chunks", [(name, line) for name, _, line in with_room]),
+        ("own, cut at every place", cut_at_every_place(with_room, 400))])
 
 
-main()
+if __name__ == "__main__":
+    run(main, __doc__)

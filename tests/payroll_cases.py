@@ -4,26 +4,21 @@
     tests/payroll_cases.py           write the files below
     tests/payroll_cases.py --list    and print where in `stdout` each case stands, its name and its answer
 
-It writes crates/payroll_cases/data/own.cases (length (4 bytes), the file) and what stands behind the lines `own` and `made` in
-crates/payroll_cases/stdout. The files behind `made` are too long to be kept: the program makes them itself (src/made.rt).
+It writes crates/payroll_cases/data/own.cases (length (4 bytes), the file) and what stands from the line `own` on in crates/payroll_cases/stdout: the
+lines of whole files, those of `made`, which are too long to be kept and which the program makes itself (src/made.rt), and the lines of whole files again
+for the same files in chunks, where the outside cases' lines are repeated too.
 
 A case is a name, how its file is built, and the line that document 01 gives it. The lines are written here by hand: nothing in this script
 computes an answer, and no program under test was asked for one. Where a program prints another line, document 01 decides which is right.
 
 A line is `A records batches payments amount` or `R number record column`.
+Behind the answer of a file that is cut in two at every place stands how many cuts have that answer: as many as the file has bytes, and one.
 """
-import pathlib
-import sys
-
-CRATE = pathlib.Path(__file__).resolve().parent.parent / "crates" / "payroll_cases"
+from records import CRLF, put
+from records import whole as lines
+from stored import cut_at_every_place, number, outside, run, write_cases, write_stdout
 
 # ---- How a file is built -------------------------------------------------------------------------------------------------------------------
-
-
-def put(record, position, text):
-    """The record with this text from this position on; positions count from 1."""
-    assert position - 1 + len(text) <= len(record)
-    return record[:position - 1] + text + record[position - 1 + len(text):]
 
 
 def record(front, *fields):
@@ -43,12 +38,7 @@ PZ = record(b"42200013" b"00003" b"Z")
 T1 = record(b"42200015", (18, b"000003"), (24, b"000000000000123456"))
 F = record(b"42299999", (18, b"000001"), (24, b"000005"))
 
-CRLF = b"\r\n"
 END = b"\x1a"
-
-
-def lines(*records):
-    return b"".join(r + CRLF for r in records)
 
 
 def whole(*records):
@@ -319,25 +309,16 @@ case("an earlier record before a later one", whole(H, B1, put(PA, 120, b"x"), T1
 # ---- Writing them ------------------------------------------------------------------------------------------------------------------------------
 
 
-def write():
-    """The cases into own.cases, and the lines behind `own` and `made` into stdout; answers how many lines stand before them."""
-    (CRATE / "data" / "own.cases").write_bytes(b"".join(len(file).to_bytes(4, "big") + file for _, file, _ in CASES))
-    stdout = CRATE / "stdout"
-    lines_there = stdout.read_text().split("\n")
-    kept = lines_there[:lines_there.index("own") + 1]
-    stdout.write_text("\n".join(kept + [line for _, _, line in CASES] + ["made"] + [line for _, line in MADE]) + "\n")
-    return len(kept)
-
-
 def main():
-    if sys.argv[1:] not in ([], ["--list"]):
-        sys.exit(__doc__)
-    before = write()
-    if sys.argv[1:]:
-        for i, (name, _, line) in enumerate(CASES):
-            print(f"stdout:{before + i + 1}: {name}: {line}")
-        for i, (name, line) in enumerate(MADE):
-            print(f"stdout:{before + len(CASES) + i + 2}: {name}: {line}")
+    write_cases("payroll_cases", "own.cases", (number(len(file)) + file for _, file, _ in CASES))
+    own = [(name, line) for name, _, line in CASES]
+    write_stdout("payroll_cases", [
+        ("own", own),
+        ("made", MADE),
+        ("outside, in chunks", outside("payroll_cases")),
+        ("own, in chunks", own),
+        ("own, cut at every place", cut_at_every_place(CASES, 1000))])
 
 
-main()
+if __name__ == "__main__":
+    run(main, __doc__)

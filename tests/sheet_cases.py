@@ -12,15 +12,13 @@ It writes
 and what stands behind the lines `own read`, `own write` and `own of a file` in crates/sheet_cases/stdout.
 
 A case is a name, its bytes or numbers, and the line that document 01 gives it. The lines are written here by hand, and so are the bytes that
-an output holds after the call; only the hash that stands for those bytes in a line is computed. No program under test was asked for an answer.
+an output holds after the call. No program under test was asked for an answer.
 
 A line of a sheet to read is `A edition date movement batches sales gross discount net` or `R number record column`; of a sheet to write, `A` or
-`R number record column`, and the hash of the whole output; of a file's sheet, the answer of the card file and that hash.
+`R number record column`, and the whole output in hex between brackets; of a file's sheet, the answer of the card file and that output.
 """
-import pathlib
-import sys
-
-CRATE = pathlib.Path(__file__).resolve().parent.parent / "crates" / "sheet_cases"
+from records import ACCEPTED, FIVE
+from stored import number, output, run, write_cases, write_stdout
 
 # ---- How a sheet is built ------------------------------------------------------------------------------------------------------------------
 
@@ -185,76 +183,39 @@ write("17: a sum that agrees only modulo 2^64", 52, sheet(gross=0, discount=1, n
 
 # ---- The sheets of a card file -------------------------------------------------------------------------------------------------------------
 
-# The card file that MARK to NET above are the sheet of: a cash sale of 10000 = 250 + 9750 in one batch.
-DAY = b"".join(record + b"\r\n" for record in (
-    b"A0" b"001.7d" b"20231115" b"083000" b"000042" + b"REDE DE POSTOS".ljust(30) + b"0101" b"000777" b"N" b"000001",
-    b"L0" b"20231115" b"RE" b"000002",
-    b"CV" + b"POSTO 7".ljust(15) + b"000000012345" b"20231114" b"235959" b"1" b"20231215" b"D" b"1"
-    b"00000010000" b"00000000250" b"00000009750" b"0004111111111111111" b"00" b"00" b"000000000000"
-    b"00000000000" b"00000000000" b"00000000000" b"422" b"000123" + b"45678-9".ljust(11) + b"000000998877" b"001" b"010" b"000003",
-    b"L9" b"000001" b"00000000010000" b"000004",
-    b"A9" b"000005" b"000005"))
-ANSWER = "A 20231115 000042 5 1 1 10000 250 9750"
-SHEET = bytes.fromhex(MARK + VERSION + EDITION + DATE + MOVEMENT + BATCHES + SALES + GROSS + DISCOUNT + NET)
+# Of the five records MARK to NET above are the sheet.
 SHEET_OF_EDITION_1 = SHEET[:5] + b"\x01" + SHEET[6:]
-assert len(SHEET) == 52
 
 # name, edition, the output's length, the file, the answer, what the output begins with after the call
 OF_FILE = [
-    ("an output of 52", 2, 52, DAY, ANSWER, SHEET),
-    ("a longer output keeps its rest", 2, 53, DAY, ANSWER, SHEET),
-    ("an output twice as long", 2, 104, DAY, ANSWER, SHEET),
-    ("the sheet carries the edition stated", 1, 52, DAY, ANSWER, SHEET_OF_EDITION_1),
-    ("an output of 51", 2, 51, DAY, "R 2 0 0", b""),
-    ("no output", 2, 0, DAY, "R 2 0 0", b""),
-    ("1 before 2", 3, 51, DAY, "R 1 0 0", b""),
-    ("edition 0", 0, 52, DAY, "R 1 0 0", b""),
+    ("an output of 52", 2, 52, FIVE, ACCEPTED, SHEET),
+    ("a longer output keeps its rest", 2, 53, FIVE, ACCEPTED, SHEET),
+    ("an output twice as long", 2, 104, FIVE, ACCEPTED, SHEET),
+    ("the sheet carries the edition stated", 1, 52, FIVE, ACCEPTED, SHEET_OF_EDITION_1),
+    ("an output of 51", 2, 51, FIVE, "R 2 0 0", b""),
+    ("no output", 2, 0, FIVE, "R 2 0 0", b""),
+    ("1 before 2", 3, 51, FIVE, "R 1 0 0", b""),
+    ("edition 0", 0, 52, FIVE, "R 1 0 0", b""),
     ("2 before the file's own refusal", 2, 51, b"", "R 2 0 0", b""),
     ("an empty file", 2, 52, b"", "R 12 1 0", b""),
-    ("a file without its A9", 2, 53, DAY[:-16], "R 12 5 0", b""),
-    ("a byte behind A9", 2, 60, DAY + b"\x1a", "R 13 6 0", b""),
+    ("a file without its A9", 2, 53, FIVE[:-16], "R 12 5 0", b""),
+    ("a byte behind A9", 2, 60, FIVE + b"\x1a", "R 13 6 0", b""),
 ]
 
 # ---- Writing them ----------------------------------------------------------------------------------------------------------------------------
 
 
-def number(n, size):
-    return n.to_bytes(size, "big")
-
-
-def hashed(size, front):
-    """The hash of an output of this size that begins with `front` and is else as every case finds it."""
-    before = bytes((i * 7 + 3) % 256 for i in range(size))
-    h = 0
-    for byte in front + before[len(front):]:
-        h = (h * 31 + byte) % 2**32
-    return h
-
-
 def main():
-    if sys.argv[1:] not in ([], ["--list"]):
-        sys.exit(__doc__)
-    data = CRATE / "data"
-    (data / "own_read.cases").write_bytes(b"".join(number(len(content), 4) + content for _, content, _ in READ))
-    (data / "own_write.cases").write_bytes(b"".join(
-        number(size, 4) + b"".join(number(n, 8) for n in numbers) for _, size, numbers, _, _ in WRITE))
-    (data / "own_of_file.cases").write_bytes(b"".join(
-        bytes([edition]) + number(size, 4) + number(len(content), 4) + content for _, edition, size, content, _, _ in OF_FILE))
-    reads = [(name, line) for name, _, line in READ]
-    writes = [(name, f"{line} {hashed(size, front)}") for name, size, _, line, front in WRITE]
-    of_files = [(name, f"{line} {hashed(size, front)}") for name, _, size, _, line, front in OF_FILE]
-    stdout = CRATE / "stdout"
-    there = stdout.read_text().split("\n")
-    kept = there[:there.index("own read")]
-    groups = [("own read", reads), ("own write", writes), ("own of a file", of_files)]
-    stdout.write_text("\n".join(kept + [line for title, group in groups for line in [title] + [line for _, line in group]]) + "\n")
-    if sys.argv[1:]:
-        at = len(kept)
-        for _, group in groups:
-            at += 1
-            for name, line in group:
-                at += 1
-                print(f"stdout:{at}: {name}: {line}")
+    write_cases("sheet_cases", "own_read.cases", (number(len(content)) + content for _, content, _ in READ))
+    write_cases("sheet_cases", "own_write.cases",
+                (number(size) + b"".join(number(n, 8) for n in numbers) for _, size, numbers, _, _ in WRITE))
+    write_cases("sheet_cases", "own_of_file.cases",
+                (bytes([edition]) + number(size) + number(len(content)) + content for _, edition, size, content, _, _ in OF_FILE))
+    write_stdout("sheet_cases", [
+        ("own read", [(name, line) for name, _, line in READ]),
+        ("own write", [(name, f"{line} [{output(size, front).hex()}]") for name, size, _, line, front in WRITE]),
+        ("own of a file", [(name, f"{line} [{output(size, front).hex()}]") for name, _, size, _, line, front in OF_FILE])])
 
 
-main()
+if __name__ == "__main__":
+    run(main, __doc__)

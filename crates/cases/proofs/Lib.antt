@@ -1,2 +1,5 @@
 pub mod Numbers
 pub mod Parts
+pub mod Pattern
+pub mod Rows
+pub mod Sizes

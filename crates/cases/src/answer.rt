@@ -11,7 +11,7 @@ const DATE_DIGITS: usize = 8;
 const MOVEMENT_DIGITS: usize = 6;
 
 // A blank, and a number.
-fn next_number(n: u64) {
+pub fn next_number(n: u64) {
     print::text(b" ");
     print::number(n);
 }

@@ -1,4 +1,5 @@
-// Payroll files: prints the answer of each case, a line each, first of the outside cases, then of our own, and last of files that are made here.
+// Payroll files: prints the answer of each case, a line each, first of the outside cases, then of our own, then of files that are made here; and again of
+// both in chunks, and the small ones of our own cut in two at every place.
 use cases::answer;
 use cases::cursor::Cursor;
 use cases::cursor::LENGTH_BYTES;
@@ -8,53 +9,93 @@ use cases::file;
 use cases::print;
 use payroll_file::answer::Accepted;
 use payroll_file::answer::PayrollAnswer;
+use payroll_stream::Progress;
 
 mod made;
 mod record;
+mod row;
+mod streamed;
 
-// A blank, and a number.
-fn print_next(n: u64) {
-    print::text(b" ");
-    print::number(n);
+// The longest file that is cut at every place.
+const CUT_MOST: usize = 1000;
+
+// How a file is given to the library.
+enum Way {
+    Whole,
+    InChunks,
+    CutAtEveryPlace,
 }
 
 // `A records batches payments amount`
 fn print_accepted(accepted: Accepted) {
     print::text(b"A");
-    print_next(accepted.records);
-    print_next(accepted.batches);
-    print_next(accepted.payments);
-    print_next(accepted.amount);
+    answer::next_number(accepted.records);
+    answer::next_number(accepted.batches);
+    answer::next_number(accepted.payments);
+    answer::next_number(accepted.amount);
 }
 
-// Prints the answer of a file, a line.
-fn print_answer(file: &[u8]) {
-    let answer = payroll_file::file::check(file);
+fn print_answer(answer: PayrollAnswer) {
     match answer {
         PayrollAnswer::Accepted(accepted) => print_accepted(accepted),
         PayrollAnswer::Refused(refusal) => answer::print_refusal(refusal),
     }
+}
+
+// Prints the answer of a file read whole, a line.
+fn print_whole(file: &[u8]) {
+    print_answer(payroll_file::file::check(file));
     print::text(b"\n");
 }
 
+// Prints the answer of a file in chunks, a line; `-` where there is none.
+fn print_in_chunks(file: &[u8]) {
+    let progress = streamed::in_chunks(file);
+    match progress {
+        Progress::GoingOn => print::text(b"-"),
+        Progress::Answered(answer) => print_answer(answer),
+    }
+    print::text(b"\n");
+}
+
+// Prints the answer of a file read whole, and how many of its cuts in two have the same, a line. A longer file is left out.
+fn print_cuts(file: &[u8]) {
+    if CUT_MOST < file.len() {
+        return;
+    }
+    let whole = payroll_file::file::check(file);
+    print_answer(whole);
+    answer::next_number(streamed::cuts_alike(file, &row::payroll_row(whole)));
+    print::text(b" cuts alike\n");
+}
+
+// Prints the line of a file.
+fn print_file(file: &[u8], way: Way) {
+    match way {
+        Way::Whole => print_whole(file),
+        Way::InChunks => print_in_chunks(file),
+        Way::CutAtEveryPlace => print_cuts(file),
+    }
+}
+
 // Prints the answer of the case that stands here, and answers the place behind it.
-fn print_case(cases: &[u8], from: Cursor) -> Place {
+fn print_case(cases: &[u8], from: Cursor, way: Way) -> Place {
     let Number::Of(length, at_file) = from.number(cases, LENGTH_BYTES) else {
         return Place::Missing;
     };
     let Place::At(next) = at_file.behind(cases, length) else {
         return Place::Missing;
     };
-    print_answer(at_file.part(cases, length));
+    print_file(at_file.part(cases, length), way);
     Place::At(next)
 }
 
 // Prints the answers of all cases. Each case takes a byte at least, so there are no more turns than bytes.
-fn print_cases(cases: &[u8]) {
+fn print_cases(cases: &[u8], way: Way) {
     let mut from = Cursor::start();
     let mut turns = cases.len();
     while turns > 0 && from.has(cases, 1) {
-        let Place::At(next) = print_case(cases, from) else {
+        let Place::At(next) = print_case(cases, from, way) else {
             print::text(b"a case is cut short\n");
             return;
         };
@@ -64,16 +105,16 @@ fn print_cases(cases: &[u8]) {
 }
 
 // Prints the answers of a file of cases.
-fn print_file(path: &[u8]) {
+fn print_all(path: &[u8], way: Way) {
     let mut buffer = file::room();
     let size = file::load(path, &mut buffer);
-    print_cases(&buffer[..size]);
+    print_cases(&buffer[..size], way);
 }
 
 // Prints the answer of what was made: so many bytes in front of the room.
 fn print_made(room: &[u8], size: usize) {
     if size <= room.len() {
-        print_answer(&room[0..size]);
+        print_whole(&room[0..size]);
     }
 }
 
@@ -123,9 +164,15 @@ fn print_made_files() {
 
 fn main() {
     print::text(b"outside\n");
-    print_file(b"outside.cases");
+    print_all(b"outside.cases", Way::Whole);
     print::text(b"own\n");
-    print_file(b"own.cases");
+    print_all(b"own.cases", Way::Whole);
     print::text(b"made\n");
     print_made_files();
+    print::text(b"outside, in chunks\n");
+    print_all(b"outside.cases", Way::InChunks);
+    print::text(b"own, in chunks\n");
+    print_all(b"own.cases", Way::InChunks);
+    print::text(b"own, cut at every place\n");
+    print_all(b"own.cases", Way::CutAtEveryPlace);
 }

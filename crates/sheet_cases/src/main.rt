@@ -1,4 +1,6 @@
 // Day sheets: prints the answer of each case, a line each: of sheets to read, to write, and of card files, first of the outside cases and then of our own.
+// Our own tell the whole output in hex, the outside ones its hash.
+use crate::output::Told;
 use cases::file;
 use cases::print;
 
@@ -15,10 +17,10 @@ fn print_read(path: &[u8]) {
 }
 
 // Prints the answers of a file of sheets to write.
-fn print_written(path: &[u8]) {
+fn print_written(path: &[u8], told: Told) {
     let mut buffer = file::room();
     let size = file::load(path, &mut buffer);
-    writing::print_cases(&buffer[..size]);
+    writing::print_cases(&buffer[..size], told);
 }
 
 // Prints the answers of a file of card files.
@@ -32,11 +34,11 @@ fn main() {
     print::text(b"outside read\n");
     print_read(b"outside_read.cases");
     print::text(b"outside write\n");
-    print_written(b"outside_write.cases");
+    print_written(b"outside_write.cases", Told::ByHash);
     print::text(b"own read\n");
     print_read(b"own_read.cases");
     print::text(b"own write\n");
-    print_written(b"own_write.cases");
+    print_written(b"own_write.cases", Told::InHex);
     print::text(b"own of a file\n");
     print_of_files(b"own_of_file.cases");
 }

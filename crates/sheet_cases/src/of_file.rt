@@ -1,19 +1,20 @@
 // The day sheet of a card file. A case is an edition, the output's length, and the file.
-use crate::output;
+use crate::output::Told;
+use crate::output::print_output;
 use cases::answer;
 use cases::cursor::Cursor;
 use cases::cursor::EDITION_BYTES;
 use cases::cursor::LENGTH_BYTES;
 use cases::cursor::Number;
 use cases::cursor::Place;
-use cases::hash;
+use cases::output;
 use cases::print;
 
-// Writes a file's sheet into an output, and prints the answer and the output's hash, a line.
+// Writes a file's sheet into an output, and prints the answer and the output in hex, a line.
 fn print_answer(edition: u64, file: &[u8], out: &mut [u8]) {
     output::fill(out);
     answer::print_card_answer(card_sheet::sheet_of(edition, file, out));
-    output::print_next(hash::hash(out));
+    print_output(out, Told::InHex);
     print::text(b"\n");
 }
 

@@ -1,5 +1,4 @@
 // Sheets to read. A case is a length, and so many bytes.
-use crate::output;
 use cases::answer;
 use cases::cursor::Cursor;
 use cases::cursor::LENGTH_BYTES;
@@ -19,16 +18,16 @@ fn print_sheet(sheet: Sheet) {
     let totals = sheet.totals;
     let amounts = totals.amounts;
     print::text(b"A");
-    output::print_next(sheet.edition);
+    answer::next_number(sheet.edition);
     print::text(b" ");
     print::padded(sheet.date, DATE_DIGITS);
     print::text(b" ");
     print::padded(sheet.movement, MOVEMENT_DIGITS);
-    output::print_next(sheet.batches);
-    output::print_next(totals.sales);
-    output::print_next(amounts.gross);
-    output::print_next(amounts.discount);
-    output::print_next(amounts.net);
+    answer::next_number(sheet.batches);
+    answer::next_number(totals.sales);
+    answer::next_number(amounts.gross);
+    answer::next_number(amounts.discount);
+    answer::next_number(amounts.net);
 }
 
 // Prints the answer of some bytes, a line.

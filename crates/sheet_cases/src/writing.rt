@@ -1,11 +1,12 @@
 // Sheets to write. A case is the output's length, and the numbers of a sheet.
-use crate::output;
+use crate::output::Told;
+use crate::output::print_output;
 use cases::answer;
 use cases::cursor::Cursor;
 use cases::cursor::LENGTH_BYTES;
 use cases::cursor::Number;
 use cases::cursor::Place;
-use cases::hash;
+use cases::output;
 use cases::print;
 use day_sheet::sheet::Sheet;
 use day_sheet::writer::SheetWritten;
@@ -92,30 +93,30 @@ fn sheet_at(cases: &[u8], from: Cursor) -> SheetFound {
     )
 }
 
-// Writes a sheet into an output, and prints the answer and the output's hash, a line: `A hash` or `R number record column hash`.
-fn print_answer(sheet: Sheet, out: &mut [u8]) {
+// Writes a sheet into an output, and prints the answer and the output, a line: `A output` or `R number record column output`.
+fn print_answer(sheet: Sheet, out: &mut [u8], told: Told) {
     output::fill(out);
     let written = day_sheet::writer::write(sheet, out);
     match written {
         SheetWritten::Written => print::text(b"A"),
         SheetWritten::Refused(refusal) => answer::print_refusal(refusal),
     }
-    output::print_next(hash::hash(out));
+    print_output(out, told);
     print::text(b"\n");
 }
 
 // The same, where the output is so many bytes in front of the room.
-fn print_answer_in(room: &mut [u8], sheet: Sheet, size: u64) {
+fn print_answer_in(room: &mut [u8], sheet: Sheet, size: u64, told: Told) {
     let end = size as usize;
     if room.len() < end {
         print::text(b"an output is too long\n");
         return;
     }
-    print_answer(sheet, &mut room[0..end]);
+    print_answer(sheet, &mut room[0..end], told);
 }
 
 // Prints the answer of the case that stands here, and answers the place behind it.
-fn print_case(cases: &[u8], from: Cursor) -> Place {
+fn print_case(cases: &[u8], from: Cursor, told: Told) -> Place {
     let Number::Of(size, at_sheet) = from.number(cases, LENGTH_BYTES) else {
         return Place::Missing;
     };
@@ -123,16 +124,16 @@ fn print_case(cases: &[u8], from: Cursor) -> Place {
         return Place::Missing;
     };
     let mut room = [0u8; 104];
-    print_answer_in(&mut room, sheet, size);
+    print_answer_in(&mut room, sheet, size, told);
     Place::At(next)
 }
 
 // Prints the answers of all cases. Each case takes a byte at least, so there are no more turns than bytes.
-pub fn print_cases(cases: &[u8]) {
+pub fn print_cases(cases: &[u8], told: Told) {
     let mut from = Cursor::start();
     let mut turns = cases.len();
     while turns > 0 && from.has(cases, 1) {
-        let Place::At(next) = print_case(cases, from) else {
+        let Place::At(next) = print_case(cases, from, told) else {
             print::text(b"a case is cut short\n");
             return;
         };

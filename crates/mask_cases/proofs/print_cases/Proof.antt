@@ -6,10 +6,10 @@ use Rattle.mask_cases.proofs.print_cases.Statement.{statement}
 use Rattle.mask_cases.proofs.print_cases.Tie as tie
 
 abbrev Inv-loop : tie.InvT-loop
-Inv-loop cases room₀ from₀ turns₀ t6 room from turns = length room ≡ length room₀
+Inv-loop cases room₀ way from₀ turns₀ t6 room from turns = length room ≡ length room₀
 
 abbrev μ-loop : tie.MeasureT-loop
-μ-loop cases room₀ from₀ turns₀ t6 room from turns = turns
+μ-loop cases room₀ way from₀ turns₀ t6 room from turns = turns
 
 start-requires : tie.Need-start-requires Inv-loop μ-loop
 start-requires c κs = search needs

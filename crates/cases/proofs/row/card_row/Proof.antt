@@ -1,0 +1,45 @@
+-- `cases::row::card_row` meets its contract, in each case.
+use mathlib.Core.Path.{refl, sym, ap, _∙_}
+use Rattle.card_run.specs.Answer.{rowOf}
+use Rattle.cases.specs.Row.{cardNumbers}
+use borrow.Author.Needs.{needs}
+use Rattle.cases.proofs.row.card_row.Statement.{statement}
+use Rattle.cases.proofs.row.card_row.Tie as tie
+
+enum-told : tie.Need-enum-told
+enum-told c = search needs
+
+enum-known-answer : tie.Need-enum-known-answer
+enum-known-answer c = search needs
+
+accepted-row-requires : tie.Need-accepted-row-requires
+accepted-row-requires c κs = search needs
+
+enum-known-answer-2 : tie.Need-enum-known-answer-2
+enum-known-answer-2 c = search needs
+
+refused-row-requires : tie.Need-refused-row-requires
+refused-row-requires c κs = search needs
+
+returns : tie.Need-returns
+unfolding rowOf
+returns c = sym (rw (c .enum-told .given .1))
+
+returns-2 : tie.Need-returns-2
+returns-2 c = c .accepted-row .ensures ∙ ap cardNumbers (sym (c .before .before .answer .given .1))
+
+returns-3 : tie.Need-returns-3
+returns-3 c = c .refused-row .ensures ∙ ap cardNumbers (sym (c .before .before .answer2 .given .1))
+
+pub card-row-spec : {M : Type 1} → statement M
+card-row-spec =
+    tie.close
+    (tie.spec
+    enum-told
+    enum-known-answer
+    accepted-row-requires
+    enum-known-answer-2
+    refused-row-requires
+    returns
+    returns-2
+    returns-3)

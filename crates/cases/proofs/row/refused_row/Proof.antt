@@ -1,0 +1,16 @@
+-- `cases::row::refused_row` meets its contract: the number is the cause's.
+use mathlib.Core.Path.{refl}
+use Rattle.card_run.specs.Answer.{rowOf}
+use borrow.Author.Needs.{needs}
+use Rattle.cases.proofs.row.refused_row.Statement.{statement}
+use Rattle.cases.proofs.row.refused_row.Tie as tie
+
+number-requires : tie.Need-number-requires
+number-requires c κs = search needs
+
+returns : tie.Need-returns
+unfolding rowOf
+returns c = rw (c .number .ensures)
+
+pub refused-row-spec : {M : Type 1} → statement M
+refused-row-spec = tie.close (tie.spec number-requires returns)

@@ -1,0 +1,22 @@
+-- Answers as rows of numbers, by which two of them are compared.
+use Prim.Native.Nat.{ℕ}
+use mathlib.Core.List.{List, [], _∷_}
+use mathlib.Core.Bool.{Bool, true, false, _&&_}
+use lib.Dec.{eqb}
+use Rattle.card_run.specs.Answer.{Row, rowOf}
+use Rattle.card_run.specs.declared.answer.CardAnswer.{CardAnswer}
+
+-- the numbers of document 01's row
+abbrev pub numbersOf : Row → List ℕ
+numbersOf r =
+    r .number ∷ r .record-number ∷ r .column ∷ r .date ∷ r .movement ∷ r .records ∷ r .batches ∷ r .sales ∷ r .gross ∷ r .discount ∷ r .net ∷ []
+
+abbrev pub cardNumbers : CardAnswer → List ℕ
+cardNumbers answer = numbersOf (rowOf answer)
+
+-- whether two rows are the same
+unfoldable pub sameNumbers : List ℕ → List ℕ → Bool
+sameNumbers [] [] = true
+sameNumbers [] (b ∷ t) = false
+sameNumbers (a ∷ s) [] = false
+sameNumbers (a ∷ s) (b ∷ t) = eqb a b && sameNumbers s t

@@ -1,0 +1,28 @@
+-- `payroll_cases::row::payroll_row` meets its contract, in each case.
+use mathlib.Core.Path.{sym, ap, _∙_}
+use Rattle.payroll_file.specs.Answer.{rowOf}
+use Rattle.payroll_cases.specs.Row.{payrollNumbers}
+use borrow.Author.Needs.{needs}
+use Rattle.payroll_cases.proofs.row.payroll_row.Statement.{statement}
+use Rattle.payroll_cases.proofs.row.payroll_row.Tie as tie
+
+enum-known-answer : tie.Need-enum-known-answer
+enum-known-answer c = search needs
+
+enum-known-answer-2 : tie.Need-enum-known-answer-2
+enum-known-answer-2 c = search needs
+
+number-requires : tie.Need-number-requires
+number-requires c κs = search needs
+
+returns : tie.Need-returns
+unfolding rowOf
+returns c = ap payrollNumbers (sym (c .before .answer .given .1))
+
+returns-2 : tie.Need-returns-2
+unfolding rowOf
+returns-2 c = rw (c .number .ensures) (ap payrollNumbers (sym (c .before .before .answer2 .given .1)))
+
+pub payroll-row-spec : {M : Type 1} → statement M
+payroll-row-spec =
+    tie.close (tie.spec enum-known-answer enum-known-answer-2 number-requires returns returns-2)
