@@ -1,6 +1,4 @@
 // Printing on standard output. No contract can say what is written.
-ghost use mathlib.Core.Path.{_≡_};
-ghost use Rattle.cases.specs.Hex.{hexDigit};
 use libc::STDOUT_FILENO;
 
 pub fn text(bytes: &[u8]) {
@@ -30,21 +28,11 @@ pub fn padded(n: u64, width: usize) {
     text(&digits[..count]);
 }
 
-// The hex digit of a byte's last four bits.
-fn hex_digit(byte: u8) -> u8
-    ensures { λ r. ⌜ r ≡ hexDigit byte ⌝ }
-{
-    let digits = b"0123456789abcdef";
-    digits[(byte % 16) as usize]
-}
-
 // Bytes in hex, two digits each.
 pub fn hex(bytes: &[u8]) {
     let mut i = 0;
     while i < bytes.len() {
-        let byte = bytes[i];
-        let digits = [hex_digit(byte / 16), hex_digit(byte)];
-        text(&digits);
+        io::print_hex(STDOUT_FILENO, bytes[i] as u64, 2);
         i += 1;
     }
 }

@@ -29,15 +29,6 @@ pub fn enter_with_out() {
     libc::close(fd);
 }
 
-fn print_hex(bytes: &[u8]) {
-    let mut i = 0;
-    while i < bytes.len() {
-        io::print_hex(libc::STDOUT_FILENO, bytes[i] as u64, 2);
-        i += 1;
-    }
-    print::text(b"\n");
-}
-
 fn print_hash(bytes: &[u8]) {
     print::number(bytes.len() as u64);
     print::text(b" bytes, hash ");
@@ -48,7 +39,10 @@ fn print_hash(bytes: &[u8]) {
 fn print_bytes(shown: Shown, bytes: &[u8]) {
     match shown {
         Shown::Lines => print::text(bytes),
-        Shown::Hex => print_hex(bytes),
+        Shown::Hex => {
+            print::hex(bytes);
+            print::text(b"\n")
+        }
         Shown::Hash => print_hash(bytes),
     }
 }

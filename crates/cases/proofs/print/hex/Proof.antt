@@ -1,7 +1,8 @@
--- `cases::print::hex` is safe and ends. The measure is what is left; nothing has to hold from turn to turn.
+-- `cases::print::hex` is safe and ends. The measure is how many bytes are left; nothing has to hold from turn to turn.
 use Prim.Native.Nat.{_-_}
-use lib.ListN.{length}
+use native.Mathlib.Omega.{arith}
 use borrow.Author.Needs.{needs}
+use lib.ListN.{length}
 use Rattle.cases.proofs.print.hex.Statement.{statement}
 use Rattle.cases.proofs.print.hex.Tie as tie
 
@@ -14,20 +15,14 @@ abbrev μ-loop : tie.MeasureT-loop
 loop-holds : tie.Need-loop-holds Inv-loop μ-loop
 loop-holds c = search needs
 
-shared-slice-read-byte : tie.Need-shared-slice-read-byte Inv-loop μ-loop
-shared-slice-read-byte c = search needs
+shared-slice-read-print-hex : tie.Need-shared-slice-read-print-hex Inv-loop μ-loop
+shared-slice-read-print-hex c = search needs
 
-hex-digit-requires : tie.Need-hex-digit-requires Inv-loop μ-loop
-hex-digit-requires c κs = search needs
+cast-print-hex : tie.Need-cast-print-hex Inv-loop μ-loop
+cast-print-hex c = omega (arith, c .shared-slice-known2 .given (c .before .before .loop .i))
 
-hex-digit-requires-2 : tie.Need-hex-digit-requires-2 Inv-loop μ-loop
-hex-digit-requires-2 c κs = search needs
-
-slice-aggregate-text : tie.Need-slice-aggregate-text Inv-loop μ-loop
-slice-aggregate-text c = search needs
-
-text-requires : tie.Need-text-requires Inv-loop μ-loop
-text-requires c κs = search needs
+print-hex-requires : tie.Need-print-hex-requires Inv-loop μ-loop
+print-hex-requires c κs = search needs
 
 add-i : tie.Need-add-i Inv-loop μ-loop
 add-i c = search needs
@@ -48,11 +43,9 @@ hex-spec =
     Inv-loop
     μ-loop
     loop-holds
-    shared-slice-read-byte
-    hex-digit-requires
-    hex-digit-requires-2
-    slice-aggregate-text
-    text-requires
+    shared-slice-read-print-hex
+    cast-print-hex
+    print-hex-requires
     add-i
     loop-less
     loop-again
