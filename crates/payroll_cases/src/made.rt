@@ -56,12 +56,13 @@ pub fn one_batch(payments: u32, sum: u64, out: &mut [u8]) -> usize {
     put_end(1, payments as u64 + 4, out, batch)
 }
 
-// Ten batches of a thousand payments of the largest amount, 10^19 - 10000 in all, and an eleventh of one payment of this amount.
-pub fn ten_batches_and(amount: u64, out: &mut [u8]) -> usize {
+// Ten batches of a thousand payments of the largest amount, 10^19 - 10000 in all, and an eleventh of one payment of this amount. The file trailer counts
+// so many records; there are 10025.
+pub fn ten_batches_and(amount: u64, records: u64, out: &mut [u8]) -> usize {
     let header = record::put_header(out, 0);
     let ten = put_batches(10, 1000, LARGEST, SUM_OF_1000, out, header);
     let eleventh = put_batch(11, 1, amount, amount, out, ten);
-    put_end(11, 10025, out, eleventh)
+    put_end(11, records, out, eleventh)
 }
 
 // So many batches of a thousand payments of the largest amount.
