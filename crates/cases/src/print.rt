@@ -3,6 +3,9 @@ ghost use mathlib.Core.Path.{_≡_};
 ghost use Rattle.cases.specs.Hex.{hexDigit};
 use libc::STDOUT_FILENO;
 
+// How many hex digits there are.
+const HEX: u8 = 16;
+
 pub fn text(bytes: &[u8]) {
     io::write_all(STDOUT_FILENO, bytes);
 }
@@ -35,7 +38,7 @@ fn hex_digit(byte: u8) -> u8
     ensures { λ r. ⌜ r ≡ hexDigit byte ⌝ }
 {
     let digits = b"0123456789abcdef";
-    digits[(byte % 16) as usize]
+    digits[(byte % HEX) as usize]
 }
 
 // Bytes in hex, two digits each.
@@ -43,7 +46,7 @@ pub fn hex(bytes: &[u8]) {
     let mut i = 0;
     while i < bytes.len() {
         let byte = bytes[i];
-        let digits = [hex_digit(byte / 16), hex_digit(byte)];
+        let digits = [hex_digit(byte / HEX), hex_digit(byte)];
         text(&digits);
         i += 1;
     }
