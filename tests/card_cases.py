@@ -156,6 +156,7 @@ card("4: a lower-case kind", sale(put(CV, 1, b"cv")), "R 4 3 1")
 card("4: A1", head(put(A0, 1, b"A1")), "R 4 1 1")
 card("4: an empty record", whole(b""), "R 4 1 1")
 card("4: an empty record in a batch", whole(A0, L0, b"", L9, A9), "R 4 3 1")
+card("4: a CR LF at A0's end makes an empty record", whole(A0 + CRLF, L0, CV, L9, A9), "R 4 2 1")
 card("4: one byte", whole(b"A"), "R 4 1 1")
 card("4: a lone CR as a record", whole(b"\r"), "R 4 1 1")
 card("4 before 5 and 6: an unknown kind of no width", whole(b"XX"), "R 4 1 1")
@@ -188,6 +189,11 @@ card("6: CR LF in A0's name cuts it short", head(put(A0, 40, CRLF)), "R 6 1 0")
 card("3: an LF in A0's name", head(put(A0, 40, b"\n")), "R 3 1 0")
 card("3: an LF in a CV's store", sale(put(CV, 10, b"\n")), "R 3 3 0")
 card("6 before 7: a short CV with a letter in its NSU", sale(put(CV, 18, b"x")[:198]), "R 6 3 0")
+card("6 before 8: a short A0 of another version", head(put(A0, 3, b"x")[:74]), "R 6 1 0")
+card("6 before 7: a wide L0 with a letter in its date", batch_head(put(L0, 3, b"x") + b"0"), "R 6 2 0")
+card("6 before 7: a wide CV with byte 31 in its store", sale(put(CV, 3, b"\x1f") + b"0"), "R 6 3 0")
+card("6 before 7: a short L9 with a letter in its count", batch_end(put(L9, 3, b"x")[:27]), "R 6 4 0")
+card("6 before 7: a short A9 with a letter in its count", end(put(A9, 3, b"x")[:13]), "R 6 5 0")
 card("6 before 9: a wide A9 of another number", end(numbered(A9, 6) + b"0"), "R 6 5 0")
 
 # 7 and 8 in A0, by position
@@ -224,6 +230,7 @@ card("processing's 8 before 9", head(put(numbered(A0, 2), 69, b"X")), "R 8 1 69"
 
 # 7 and 8 in L0
 card("7: a letter in L0's date", batch_head(put(L0, 3, b"x")), "R 7 2 3")
+card("7 before 8: a letter in a day of L0 that is none", batch_head(put(L0, 3, b"9999999x")), "R 7 2 3")
 card("8: 20230229 in L0", batch_head(put(L0, 3, b"20230229")), "R 8 2 3")
 for currency in (b"RE", b"DO", b"PE", b"  "):
     card("currency '%s'" % currency.decode(), batch_head(put(L0, 11, currency)), ACCEPTED)
@@ -244,11 +251,13 @@ card("8: date", sale(put(CV, 30, b"20230229")), "R 8 3 30")
 card("7 before 8: date", sale(put(CV, 30, b"9999999x")), "R 7 3 30")
 card("7: time, first", sale(put(CV, 38, b"x")), "R 7 3 38")
 card("7: time, last", sale(put(CV, 43, b"x")), "R 7 3 38")
+card("7 before 8: time", sale(put(CV, 38, b"99999x")), "R 7 3 38")
 card("8: time", sale(put(CV, 38, b"240000")), "R 8 3 38")
 card("8: launch type 3", sale(put(CV, 44, b"3")), "R 8 3 44")
 card("8, not 7: launch type x", sale(put(CV, 44, b"x")), "R 8 3 44")
 card("7: launch date, first", sale(put(CV, 45, b"x")), "R 7 3 45")
 card("7: launch date, last", sale(put(CV, 52, b"x")), "R 7 3 45")
+card("7 before 8: launch date", sale(put(CV, 45, b"9999999x")), "R 7 3 45")
 card("8: launch date", sale(put(CV, 45, b"21000101")), "R 8 3 45")
 for product in (b"C", b"D", b"V"):
     card("product %s" % product.decode(), sale(put(CV, 53, product)), ACCEPTED)
@@ -301,6 +310,23 @@ card("card before instalment", sale(put(CV, 106, b"xx")), "R 7 3 88")
 card("NSEQ's 7, the last field's, before 8 at 107", sale(put(put(CV, 107, b"0201"), 194, b"x")), "R 7 3 194")
 card("product code's 7 before 9", sale(put(CV, 193, b"\x7f" b"000004")), "R 7 3 191")
 card("capture's 8 before 9", sale(put(put(CV, 54, b"0"), 194, b"000004")), "R 8 3 54")
+
+# Each field of each kind before the next one: what is put where, and the refusal that it gives alone.
+WRONG_A0 = ((3, b"001.6d", 8), (9, b"20230229", 8), (17, b"240000", 8), (23, b"x", 7), (29, b"\x1f", 7), (59, b"x", 7), (63, b"x", 7), (69, b"X", 8),
+            (70, b"x", 7))
+WRONG_L0 = ((3, b"20230229", 8), (11, b"US", 8), (13, b"x", 7))
+WRONG_CV = ((3, b"\x1f", 7), (18, b"x", 7), (30, b"20230229", 8), (38, b"240000", 8), (44, b"3", 8), (45, b"21000101", 8), (53, b"X", 8), (54, b"0", 8),
+            (55, b"x", 7), (66, b"x", 7), (77, b"x", 7), (88, b"x", 7), (107, b"x", 7), (109, b"x", 7), (111, b"x", 7), (123, b"x", 7), (134, b"x", 7),
+            (145, b"x", 7), (156, b"x", 7), (159, b"x", 7), (165, b"\x7f", 7), (176, b"x", 7), (188, b"\x7f", 7), (191, b"\x7f", 7), (194, b"x", 7))
+WRONG_L9 = ((3, b"x", 7), (9, b"x", 7), (23, b"x", 7))
+WRONG_A9 = ((3, b"x", 7), (9, b"x", 7))
+for kind, file, right, place, fields in (("A0", head, A0, 1, WRONG_A0), ("L0", batch_head, L0, 2, WRONG_L0), ("CV", sale, CV, 3, WRONG_CV),
+                                         ("L9", batch_end, L9, 4, WRONG_L9), ("A9", end, A9, 5, WRONG_A9)):
+    for (column, text, refusal), (later, later_text, _) in zip(fields, fields[1:]):
+        card(f"{kind}: {refusal} at {column} before {later}", file(put(put(right, column, text), later, later_text)), f"R {refusal} {place} {column}")
+card("L0: 8 at 11 before 9", batch_head(put(numbered(L0, 3), 11, b"US")), "R 8 2 11")
+card("L9: 7 at 9 before 9", batch_end(put(numbered(L9, 5), 9, b"x")), "R 7 4 9")
+card("A9: 7 at 3 before 9", end(put(numbered(A9, 6), 3, b"x")), "R 7 5 3")
 
 # The joined rules: 9, 8 at 107, 8 at 111 to 145, 10 at 77, 10 at 145
 card("9 before 8 at 107", sale(put(put(CV, 107, b"0201"), 194, b"000004")), "R 9 3 194")

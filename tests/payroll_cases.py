@@ -97,6 +97,7 @@ MADE = [
     ("an amount of 10^19 - 1 over eleven batches", "A 10025 11 10001 9999999999999999999"),
     ("an amount of 10^19", "R 11 10025 0"),
     ("an amount of 10^19, before 12", "R 11 10025 0"),
+    ("an amount of 10^19, behind a wrong count of records", "R 11 10025 24"),
     ("an amount past 2^64", "R 11 19040 0"),
     ("9,998 batches", "A 19998 9998 0 0"),
     ("9,999 batches", "R 9 19998 4"),
@@ -231,6 +232,7 @@ for name, file, right, place in RECORDS:
 # the header: batch, 143, date
 case("8: header, batch 0001", header(put(H, 4, b"0001")), "R 8 1 4")
 case("8: header, batch 9999", header(put(H, 4, b"9999")), "R 8 1 4")
+case("7: header, a letter in the batch before 143", header(put(put(H, 7, b"x"), 143, b"3")), "R 7 1 4")
 case("8: header, batch before 143", header(put(put(H, 4, b"0001"), 143, b"3")), "R 8 1 4")
 case("8: 143 is 0", header(put(H, 143, b"0")), "R 8 1 143")
 case("8: 143 is 3", header(put(H, 143, b"3")), "R 8 1 143")
@@ -258,6 +260,8 @@ case("9: the first detail is 0", paid(put(PA, 9, b"00000")), "R 9 3 9")
 case("9: the first detail is 2", paid(put(PA, 9, b"00002")), "R 9 3 9")
 case("9: the second detail is 1 again", whole(H, B1, PA, PA), "R 9 4 9")
 case("9: the second detail is 3", whole(H, B1, PA, detail(3)), "R 9 4 9")
+case("9: B in batch 0002, before its number", whole(H, B1, PA, put(put(PB, 4, b"0002"), 9, b"00003")), "R 9 4 4")
+case("9: Z in batch 0002, before its number", whole(HZ, B1, PA, PB, put(put(PZ, 4, b"0002"), 9, b"00004")), "R 9 5 4")
 case("9: B is numbered as its A", whole(H, B1, PA, detail(1, b"B")), "R 9 4 9")
 case("9: Z is numbered as its A", whole(HZ, B1, PA, detail(1, b"Z")), "R 9 4 9")
 case("9: the second batch's first detail goes on", whole(H, B1, PA, T1, batch_header(2), detail(2, batch=2)), "R 9 6 9")
@@ -266,6 +270,9 @@ case("7: a letter in a detail's number", paid(put(PA, 13, b"x")), "R 7 3 9")
 case("7: a blank in B's number", whole(H, B1, PA, put(PB, 9, b" ")), "R 7 4 9")
 case("9: the number before the date", paid(put(put(PA, 9, b"00002"), 94, b"00000000")), "R 9 3 9")
 case("7: a letter in a payment's date", paid(put(PA, 94, b"x")), "R 7 3 94")
+case("7: a letter in a detail's number before the date", paid(put(put(PA, 13, b"x"), 94, b"00000000")), "R 7 3 9")
+case("7 before 8: a letter in a payment's day that is none", paid(put(PA, 94, b"9911202x")), "R 7 3 94")
+case("7: a letter in the date before the amount", paid(put(put(PA, 94, b"x"), 120, b"x")), "R 7 3 94")
 case("8: the date before the amount", paid(put(put(PA, 94, b"00000000"), 120, b"x")), "R 8 3 94")
 case("7: a letter in the amount, first", paid(put(PA, 120, b"x")), "R 7 3 120")
 case("7: a letter in the amount, last", paid(put(PA, 134, b"x")), "R 7 3 120")
@@ -275,6 +282,8 @@ case("93 and 102 are not of the date", paid(put(put(PA, 93, b"x"), 102, b"x")), 
 # a batch trailer: batch, count, sum
 case("9: a batch trailer of batch 0002", closed(put(T1, 4, b"0002")), "R 9 4 4")
 case("9: a batch trailer's batch before its count", closed(put(put(T1, 4, b"0002"), 18, b"000004")), "R 9 4 4")
+case("7: a letter in a batch trailer's batch before its count", closed(put(put(T1, 7, b"x"), 18, b"000004")), "R 7 4 4")
+case("11: a batch trailer's count before its sum", closed(put(put(T1, 18, b"000004"), 41, b"7")), "R 11 4 18")
 case("11: a batch trailer without header and trailer", closed(put(T1, 18, b"000001")), "R 11 4 18")
 case("11: a batch trailer with one record more", closed(put(T1, 18, b"000004")), "R 11 4 18")
 case("11: a batch trailer with the file's records", closed(put(T1, 18, b"000005")), "R 11 4 18")
@@ -298,6 +307,9 @@ case("8: the file trailer's batch before its count", ended(put(put(F, 4, b"9998"
 case("7: a letter in the file trailer's batches", ended(put(F, 23, b"x")), "R 7 5 18")
 case("11: the file trailer with no batch", ended(put(F, 18, b"000000")), "R 11 5 18")
 case("11: the file trailer with two batches", ended(put(F, 18, b"000002")), "R 11 5 18")
+case("7: a letter in the file trailer's batch before its count", ended(put(put(F, 7, b"x"), 18, b"000002")), "R 7 5 4")
+case("7: a letter in the batches before the records", ended(put(put(F, 23, b"x"), 24, b"000006")), "R 7 5 18")
+case("11: the batches before the records", ended(put(F, 18, b"000002" b"000006")), "R 11 5 18")
 case("11: the batches before a letter in the records", ended(put(F, 18, b"000002" b"x")), "R 11 5 18")
 case("7: a letter in the file trailer's records", ended(put(F, 29, b"x")), "R 7 5 24")
 case("11: the file trailer without itself", ended(put(F, 24, b"000004")), "R 11 5 24")

@@ -1,6 +1,4 @@
 // The line of a file: its answer, and the hash of its output.
-ghost use Prim.Native.Nat.{_≤_};
-ghost use lib.ListN.{length};
 use crate::copying;
 use card_run::answer::CardAnswer;
 use cases::answer;
@@ -29,18 +27,12 @@ pub fn print_in_chunks(edition: u64, file: &[u8], out: &mut [u8]) {
     if out.len() < file.len() {
         return;
     }
-    if copying::ROOM < file.len() {
-        print::text(b"a file is too long\n");
-        return;
-    }
     print_line(copying::in_chunks(edition, file, out), out);
     print::text(b"\n");
 }
 
 // How many of all the cuts of a file in two give this row of numbers and an output of this hash.
-fn cuts_alike(edition: u64, file: &[u8], out: &mut [u8], whole: &[u64], hash: u64) -> u64
-    requires { ⌜ (length (now file) ≤ 400) × (length (now file) ≤ length (now out)) ⌝ }
-{
+fn cuts_alike(edition: u64, file: &[u8], out: &mut [u8], whole: &[u64], hash: u64) -> u64 {
     let mut alike = 0;
     let mut place = 0;
     while place <= file.len() {

@@ -7,6 +7,9 @@ const LARGEST: u64 = 999_999_999_999_999;
 // The sum of a thousand of them, the largest that has 18 digits.
 const SUM_OF_1000: u64 = 999_999_999_999_999_000;
 
+// The records of the eleven batches of `ten_batches_and`, with the file's header and trailer.
+pub const RECORDS_OF_ELEVEN: u64 = 10025;
+
 // Puts so many payments of one amount.
 fn put_payments(batch: u64, payments: u64, amount: u64, out: &mut [u8], at: usize) -> usize {
     let mut end = at;
@@ -56,12 +59,13 @@ pub fn one_batch(payments: u32, sum: u64, out: &mut [u8]) -> usize {
     put_end(1, payments as u64 + 4, out, batch)
 }
 
-// Ten batches of a thousand payments of the largest amount, 10^19 - 10000 in all, and an eleventh of one payment of this amount.
-pub fn ten_batches_and(amount: u64, out: &mut [u8]) -> usize {
+// Ten batches of a thousand payments of the largest amount, 10^19 - 10000 in all, and an eleventh of one payment of this amount. The file trailer counts
+// so many records.
+pub fn ten_batches_and(amount: u64, records: u64, out: &mut [u8]) -> usize {
     let header = record::put_header(out, 0);
     let ten = put_batches(10, 1000, LARGEST, SUM_OF_1000, out, header);
     let eleventh = put_batch(11, 1, amount, amount, out, ten);
-    put_end(11, 10025, out, eleventh)
+    put_end(11, records, out, eleventh)
 }
 
 // So many batches of a thousand payments of the largest amount.

@@ -128,15 +128,17 @@ fn print_sums(room: &mut [u8]) {
     print_made(room, past_64_bits);
 }
 
-// The amounts of a whole file: 10^19 - 1, and 10^19, with the byte 1A and without; and one past 2^64, which is below 10^19 where it wraps.
+// The amounts of a whole file: 10^19 - 1; 10^19, with the byte 1A, without, and behind a wrong count; and one past 2^64, which is below 10^19 where it wraps.
 fn print_amounts(room: &mut [u8]) {
-    let fits = made::ten_batches_and(9999, room);
+    let fits = made::ten_batches_and(9999, made::RECORDS_OF_ELEVEN, room);
     print_made(room, fits);
-    let too_large = made::ten_batches_and(10000, room);
+    let too_large = made::ten_batches_and(10000, made::RECORDS_OF_ELEVEN, room);
     print_made(room, too_large);
     if too_large > 0 {
         print_made(room, too_large - 1);
     }
+    let miscounted = made::ten_batches_and(10000, made::RECORDS_OF_ELEVEN + 1, room);
+    print_made(room, miscounted);
     let past_64_bits = made::full_batches(19, room);
     print_made(room, past_64_bits);
 }

@@ -1,6 +1,6 @@
 -- `cases::output::fill` meets its contract. The invariant: the bytes so far are the pattern's, and the next byte is the one to come.
 use Prim.Native.Nat.{_≤_, _-_}
-use mathlib.Core.Path.{_≡_, refl, sym, _∙_}
+use mathlib.Core.Path.{_≡_, _∙_}
 use native.Mathlib.Omega.{arith}
 use lib.ListN.{length, take, length-set}
 use borrow.Author.Needs.{needs}

@@ -1,5 +1,5 @@
 -- `cases::row::card_row` meets its contract, in each case.
-use mathlib.Core.Path.{refl, sym, ap, _∙_}
+use mathlib.Core.Path.{sym, ap, _∙_}
 use Rattle.card_run.specs.Answer.{rowOf}
 use Rattle.cases.specs.Row.{cardNumbers}
 use borrow.Author.Needs.{needs}

@@ -1,5 +1,4 @@
 -- `cases::row::refused_row` meets its contract: the number is the cause's.
-use mathlib.Core.Path.{refl}
 use Rattle.card_run.specs.Answer.{rowOf}
 use borrow.Author.Needs.{needs}
 use Rattle.cases.proofs.row.refused_row.Statement.{statement}

@@ -1,5 +1,5 @@
 -- `payroll_cases::row::payroll_row` meets its contract, in each case.
-use mathlib.Core.Path.{sym, ap, _∙_}
+use mathlib.Core.Path.{sym, ap}
 use Rattle.payroll_file.specs.Answer.{rowOf}
 use Rattle.payroll_cases.specs.Row.{payrollNumbers}
 use borrow.Author.Needs.{needs}

@@ -1,6 +1,5 @@
 -- `cases::cuts::Cuts::size` meets its contract: a product of two numbers below 20 fits.
 use native.Mathlib.Omega.{arith}
-use native.Mathlib.Nat.{mul-le-mul}
 use mathlib.Core.Path.{refl}
 use Rattle.cases.specs.Cuts.{sizeOf}
 use Rattle.cases.proofs.Sizes.{size-range}
