@@ -18,7 +18,7 @@ use Rattle.card_run.specs.declared.stage.Stage.{Stage}
 use Rattle.card_run.specs.declared.stage.Stage.the-variants.{Start, BetweenBatches, InBatch, Ended, Closed, Refused}
 use Rattle.card_run.specs.declared.running.Running.{Running}
 use Rattle.card_run.specs.declared.answer.Accepted.{Accepted as CardNumbers}
-use Rattle.card_run.specs.declared.answer.CardAnswer.the-variants.{Accepted, Refused as refused}
+use Rattle.card_run.specs.declared.answer.CardAnswer.the-variants.{GoingOn, Accepted, Refused as refused}
 use Rattle.card_record.specs.Reading.{readingOf}
 use Rattle.card_run.specs.Running.{tookAt, fedOf, closedAt, closedOf, refusedAt}
 use Rattle.card_run.specs.Answer.{answerAt, answerOf}
@@ -28,7 +28,7 @@ use Rattle.card_stream.specs.Stream as card
 use Rattle.card_stream.proofs.InChunks as card-stream
 use Rattle.card_mask.proofs.InChunks.{copied-as-whole, accepted-copy-written}
 use Rattle.payroll_stream.specs.declared.Progress.{Progress}
-use Rattle.payroll_stream.specs.declared.Progress.the-variants.{GoingOn, Answered}
+use Rattle.payroll_stream.specs.declared.Progress.the-variants.{GoingOn as goingOn, Answered}
 use Rattle.payroll_stream.specs.declared.Stream.{Stream as PayrollStream}
 use Rattle.payroll_stream.specs.Stream as payroll
 use Rattle.payroll_stream.proofs.InChunks as payroll-stream
@@ -73,6 +73,34 @@ ended-again st (b ∷ s) = unended-again st (st .stage) refl
 card-ended-again : (s : Stream) → card.answerOf (card.endedOf (card.endedOf s)) ≡ card.answerOf (card.endedOf s)
 unfolding card.withHeld endOf
 card-ended-again s = ap answerOf (ended-again (s .state) (heldBy (s .held)))
+
+-- the end decides: it leaves a file closed or refused
+closed-decides : (st : Running) (stage : Stage) → st .stage ≡ stage → answerOf (closedAt stage st) ≡ GoingOn → _≡_ {A = ℕ} 0 1
+unfolding closedAt answerAt
+closed-decides st Start k e = cc
+closed-decides st BetweenBatches k e = cc
+closed-decides st InBatch k e = cc
+closed-decides st Ended k e = cc
+closed-decides st Closed k e = let f : answerAt Closed st ≡ GoingOn = ap (λ s. answerAt s st) (sym k) ∙ e in cc
+closed-decides st (Refused r) k e = let f : answerAt (Refused r) st ≡ GoingOn = ap (λ s. answerAt s st) (sym k) ∙ e in cc
+
+unended-decides : (st : Running) (stage : Stage) → st .stage ≡ stage → answerOf (unendedAt stage st) ≡ GoingOn → _≡_ {A = ℕ} 0 1
+unfolding unendedAt answerAt
+unended-decides st Start k e = cc
+unended-decides st BetweenBatches k e = cc
+unended-decides st InBatch k e = cc
+unended-decides st Ended k e = cc
+unended-decides st Closed k e = cc
+unended-decides st (Refused r) k e = let f : answerAt (Refused r) st ≡ GoingOn = ap (λ s. answerAt s st) (sym k) ∙ e in cc
+
+end-decides : (st : Running) (held : List ℕ) → answerOf (endOf st held) ≡ GoingOn → ⊥
+unfolding endOf
+end-decides st [] e = absurd (let z = closed-decides st (st .stage) refl e in omega arith)
+end-decides st (b ∷ s) e = absurd (let z = unended-decides st (st .stage) refl e in omega arith)
+
+card-decided : (s : Stream) → card.answerOf (card.endedOf s) ≡ GoingOn → ⊥
+unfolding card.withHeld
+card-decided s e = end-decides (s .state) (heldBy (s .held)) e
 
 -- the answer of a state with bytes that wait, by whether there are any
 with-bytes : (held : List ℕ) (st : Running) → 0 < length held → card.withHeld held st ≡ card.behindEnd (st .stage) st
@@ -223,12 +251,13 @@ unfolding payroll.endedAt
 payroll-ended-again s = by (s .progress) refl
   where
     by : (p : Progress) → s .progress ≡ p → payroll.endedOf (payroll.endedAt p s) ≡ payroll.endedAt p s
-    by GoingOn e = refl
+    by goingOn e = refl
     by (Answered a) e = ap (λ p. payroll.endedAt p s) e
 
 pub after-the-end : AfterTheEnd
 after-the-end =
     record {
+      card-decided = card-decided;
       card-ended-again = card-ended-again;
       payroll-ended-again = payroll-ended-again;
       card-refused = card-refused;

@@ -6,7 +6,7 @@ use Rattle.refusal.specs.declared.Refusal.{Refusal}
 use Rattle.chunks.specs.Chunks.{joinedChunks}
 use Rattle.card_run.specs.declared.answer.Accepted.{Accepted as CardNumbers}
 use Rattle.card_run.specs.declared.answer.CardAnswer.{CardAnswer}
-use Rattle.card_run.specs.declared.answer.CardAnswer.the-variants.{Accepted, Refused}
+use Rattle.card_run.specs.declared.answer.CardAnswer.the-variants.{GoingOn, Accepted, Refused}
 use Rattle.card_file.specs.CardFile.{checkOf}
 use Rattle.card_stream.specs.declared.Stream.{Stream as CardStream}
 use Rattle.card_stream.specs.Stream as card
@@ -39,6 +39,8 @@ pub record AsTheWhole : Type 0 where
 
 -- a chunk or an end after the end, or after a refusal, in every state that a caller can hold
 pub record AfterTheEnd : Type 0 where
+  -- the end decides: the file is accepted or refused, and does not go on
+  pub card-decided : (s : CardStream) → card.answerOf (card.endedOf s) ≡ GoingOn → ⊥
   -- a further end changes nothing
   pub card-ended-again : (s : CardStream) → card.answerOf (card.endedOf (card.endedOf s)) ≡ card.answerOf (card.endedOf s)
   pub payroll-ended-again : (s : PayrollStream) → payroll.endedOf (payroll.endedOf s) ≡ payroll.endedOf s

@@ -1,3 +1,4 @@
 pub mod Finished
 pub mod Moves
+pub mod Taken
 pub mod Waiting

@@ -4,6 +4,9 @@ use mathlib.Core.Path.{_≡_}
 use mathlib.Core.List.{List}
 use Rattle.card_file.specs.CardFile.{checkOf}
 use Rattle.payroll_file.specs.PayrollFile.{checkOf as payrollCheckOf}
+use Rattle.payroll_stream.specs.declared.Progress.{Progress}
+use Rattle.payroll_stream.specs.declared.Progress.the-variants.{GoingOn, Answered}
+use Rattle.programs.specs.declared.outcome.Mistake.the-variants.{CannotRead}
 use Rattle.programs.specs.declared.outcome.Outcome.{Outcome}
 use Rattle.programs.specs.declared.outcome.Outcome.the-variants.{Answer, Mistake}
 use Rattle.programs.specs.declared.payroll.PayrollOutcome.{PayrollOutcome}
@@ -18,3 +21,8 @@ Checked edition (Mistake mistake) = Unit {0}
 abbrev pub PayrollChecked : PayrollOutcome → Type 0
 PayrollChecked (PayrollAnswer answer) = (bytes : List ℕ) × (answer ≡ payrollCheckOf bytes)
 PayrollChecked (PayrollMistake mistake) = Unit {0}
+
+-- the outcome of a file that is decided; one that is not was not read to its end
+abbrev pub outcomeOf : Progress → PayrollOutcome
+outcomeOf (Answered answer) = PayrollAnswer answer
+outcomeOf GoingOn = PayrollMistake CannotRead

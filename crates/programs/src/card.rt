@@ -1,4 +1,5 @@
 // A card file, read from a descriptor in chunks.
+ghost use Rattle.programs.specs.Checked.{Checked};
 use crate::outcome;
 use crate::outcome::Mistake;
 use crate::outcome::Outcome;
@@ -10,7 +11,9 @@ use files::reading::Got;
 const CHUNK: usize = 65536;
 
 // Reads until the end, an error, or a refusal, which no further byte can change. A file of more reads than are counted counts as unreadable.
-fn check_by(edition: u64, fd: i32, buffer: &mut [u8]) -> Outcome {
+fn check_by(edition: u64, fd: i32, buffer: &mut [u8]) -> Outcome
+    ensures { λ r. ⌜ Checked edition r ⌝ }
+{
     let mut stream = Stream::open(edition);
     let mut reads = reading::MOST_READS;
     while reads > 0 {
@@ -20,7 +23,7 @@ fn check_by(edition: u64, fd: i32, buffer: &mut [u8]) -> Outcome {
             Got::Bytes(size) => stream = stream.take(&buffer[..size]),
         }
         if outcome::is_decided(stream.answer()) {
-            return Outcome::Answer(stream.answer());
+            return Outcome::Answer(stream.end().answer());
         }
         reads -= 1;
     }
@@ -28,7 +31,9 @@ fn check_by(edition: u64, fd: i32, buffer: &mut [u8]) -> Outcome {
 }
 
 // Checks the card file that a descriptor reads.
-pub fn check(edition: u64, fd: i32) -> Outcome {
+pub fn check(edition: u64, fd: i32) -> Outcome
+    ensures { λ r. ⌜ Checked edition r ⌝ }
+{
     let mut buffer = [0u8; CHUNK];
     check_by(edition, fd, &mut buffer)
 }

@@ -1,4 +1,6 @@
 // A payroll file, read from a descriptor in chunks.
+ghost use mathlib.Core.Path.{_≡_};
+ghost use Rattle.programs.specs.Checked.{PayrollChecked, outcomeOf};
 use crate::outcome::Mistake;
 use files::reading;
 use files::reading::Got;
@@ -23,7 +25,9 @@ fn is_decided(progress: Progress) -> bool {
 }
 
 // What comes of a file that is decided.
-fn outcome_of(progress: Progress) -> PayrollOutcome {
+fn outcome_of(progress: Progress) -> PayrollOutcome
+    ensures { λ r. ⌜ r ≡ outcomeOf progress ⌝ }
+{
     match progress {
         Progress::Answered(answer) => PayrollOutcome::Answer(answer),
         Progress::GoingOn => PayrollOutcome::Mistake(Mistake::CannotRead),
@@ -31,7 +35,9 @@ fn outcome_of(progress: Progress) -> PayrollOutcome {
 }
 
 // Reads until the end, an error, or a refusal, which no further byte can change. A file of more reads than are counted counts as unreadable.
-fn check_by(fd: i32, buffer: &mut [u8]) -> PayrollOutcome {
+fn check_by(fd: i32, buffer: &mut [u8]) -> PayrollOutcome
+    ensures { λ r. ⌜ PayrollChecked r ⌝ }
+{
     let mut stream = Stream::open();
     let mut reads = reading::MOST_READS;
     while reads > 0 {
@@ -41,7 +47,7 @@ fn check_by(fd: i32, buffer: &mut [u8]) -> PayrollOutcome {
             Got::Bytes(size) => stream = stream.take(&buffer[..size]),
         }
         if is_decided(stream.answer()) {
-            return outcome_of(stream.answer());
+            return outcome_of(stream.end().answer());
         }
         reads -= 1;
     }
@@ -49,7 +55,9 @@ fn check_by(fd: i32, buffer: &mut [u8]) -> PayrollOutcome {
 }
 
 // Checks the payroll file that a descriptor reads.
-pub fn check(fd: i32) -> PayrollOutcome {
+pub fn check(fd: i32) -> PayrollOutcome
+    ensures { λ r. ⌜ PayrollChecked r ⌝ }
+{
     let mut buffer = [0u8; CHUNK];
     check_by(fd, &mut buffer)
 }

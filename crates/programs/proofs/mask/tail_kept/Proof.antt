@@ -2,14 +2,10 @@
 use borrow.Author.Tests.{lt-ltb, le-ltb}
 use Rattle.programs.proofs.mask.tail_kept.Statement.{statement}
 use Rattle.programs.proofs.mask.tail_kept.Tie as tie
-use Rattle.programs.proofs.mask.tail_kept.Reads as reads
-use Rattle.programs.proofs.mask.tail_kept.Lts as lts
 
--- src/mask.rt:40:1
 returns : tie.Need-returns
 returns c = rw (lt-ltb (c .before .args .tail) (c .before .args .room) (c .if1 .taken))
 
--- src/mask.rt:40:1
 returns-2 : tie.Need-returns-2
 returns-2 c = rw (le-ltb (c .before .args .tail) (c .before .args .room) (c .if1 .left))
 

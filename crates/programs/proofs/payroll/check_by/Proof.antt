@@ -1,4 +1,5 @@
--- `programs::payroll::check_by` is safe and ends. The invariant: the buffer keeps its length. The measure is the count of reads.
+-- `programs::payroll::check_by` meets its contract. The invariant: the buffer keeps its length, and the stream has taken some chunks. The measure is the
+-- count of reads.
 use Prim.Native.Nat.{_-_}
 use mathlib.Core.Path.{_≡_}
 use native.Mathlib.Omega.{arith}
@@ -6,11 +7,12 @@ use lib.ListN.{length}
 use borrow.Author.Needs.{needs}
 use Rattle.programs.proofs.payroll.check_by.Statement.{statement}
 use Rattle.programs.proofs.payroll.check_by.Tie as tie
+use Rattle.programs.proofs.Taken.{PayrollTaken, none-taken, one-taken, payroll-ended}
 use Rattle.files.proofs.Parts.{front-length}
 use Rattle.files.proofs.Answers.{got-within}
 
 abbrev Inv-loop : tie.InvT-loop
-Inv-loop fd buffer₀ stream₀ reads₀ buffer stream reads = length buffer ≡ length buffer₀
+Inv-loop fd buffer₀ stream₀ reads₀ buffer stream reads = (length buffer ≡ length buffer₀) × PayrollTaken stream
 
 abbrev μ-loop : tie.MeasureT-loop
 μ-loop fd buffer₀ stream₀ reads₀ buffer stream reads = reads
@@ -19,7 +21,7 @@ open-requires : tie.Need-open-requires Inv-loop μ-loop
 open-requires c κs = search needs
 
 loop-holds : tie.Need-loop-holds Inv-loop μ-loop
-loop-holds c = search needs
+loop-holds c = (search needs, none-taken _ _ (c .«open» .ensures))
 
 read-some-requires : tie.Need-read-some-requires Inv-loop μ-loop
 read-some-requires c κs = search needs
@@ -31,7 +33,7 @@ same-length : tie.Need-same-length Inv-loop μ-loop
 same-length c = search needs
 
 returns : tie.Need-returns Inv-loop μ-loop
-returns c = search needs
+returns c = tt
 
 enum-told-2 : tie.Need-enum-told-2 Inv-loop μ-loop
 enum-told-2 c = search needs
@@ -49,7 +51,7 @@ same-length-2 : tie.Need-same-length-2 Inv-loop μ-loop
 same-length-2 c = search needs
 
 returns-2 : tie.Need-returns-2 Inv-loop μ-loop
-returns-2 c = search needs
+returns-2 c = payroll-ended (c .before .before .before .before .before .before .before .before .before .before .loop .inv .1) (c .before .before .end .ensures) (c .before .answer .ensures) (c .outcome-of .ensures)
 
 enum-known-size : tie.Need-enum-known-size Inv-loop μ-loop
 enum-known-size c = search needs
@@ -75,6 +77,9 @@ answer-requires-2 c κs = search needs
 is-decided-requires : tie.Need-is-decided-requires Inv-loop μ-loop
 is-decided-requires c κs = search needs
 
+end-requires-2 : tie.Need-end-requires-2 Inv-loop μ-loop
+end-requires-2 c κs = search needs
+
 answer-requires-3 : tie.Need-answer-requires-3 Inv-loop μ-loop
 answer-requires-3 c κs = search needs
 
@@ -82,10 +87,13 @@ outcome-of-requires-2 : tie.Need-outcome-of-requires-2 Inv-loop μ-loop
 outcome-of-requires-2 c κs = search needs
 
 same-length-3 : tie.Need-same-length-3 Inv-loop μ-loop
-same-length-3 c = search needs
+same-length-3 c =
+    let same = c .before .before .before .before .before .before .before .before .before .before .before .before .before .before .before .before .loop .inv .0 in
+    search needs
 
 returns-3 : tie.Need-returns-3 Inv-loop μ-loop
-returns-3 c = search needs
+returns-3 c =
+    payroll-ended (one-taken _ _ _ (c .before .before .before .before .before .before .before .before .before .before .before .before .before .before .before .before .loop .inv .1) (c .before .before .before .before .before .before .take .ensures)) (c .before .before .end2 .ensures) (c .before .answer3 .ensures) (c .outcome-of2 .ensures)
 
 sub-reads : tie.Need-sub-reads Inv-loop μ-loop
 sub-reads c = search needs
@@ -94,13 +102,16 @@ loop-less : tie.Need-loop-less Inv-loop μ-loop
 loop-less c = search needs
 
 loop-again : tie.Need-loop-again Inv-loop μ-loop
-loop-again c = search needs
+loop-again c =
+    let w = c .before .before .before in
+    let same = c .before .before .before .before .before .before .before .before .before .before .before .before .before .loop .inv .0 in
+    (search needs, one-taken _ _ _ (c .before .before .before .before .before .before .before .before .before .before .before .before .before .loop .inv .1) (w .take .ensures))
 
 same-length-4 : tie.Need-same-length-4 Inv-loop μ-loop
 same-length-4 c = search needs
 
 returns-4 : tie.Need-returns-4 Inv-loop μ-loop
-returns-4 c = search needs
+returns-4 c = tt
 
 pub check-by-spec : {M : Type 1} → statement M
 check-by-spec =
@@ -126,6 +137,7 @@ check-by-spec =
     take-requires
     answer-requires-2
     is-decided-requires
+    end-requires-2
     answer-requires-3
     outcome-of-requires-2
     same-length-3
