@@ -1,8 +1,9 @@
 // The masked copy of a card file, from file to file in one pass.
-ghost use Prim.Native.Nat.{_≤_, _<_};
+ghost use Prim.Native.Nat.{ℕ, _≤_, _<_};
 ghost use mathlib.Core.Path.{_≡_};
 ghost use lib.ListN.{length};
 ghost use Rattle.programs.specs.Masking.{MovedToFront, keptSize, leaves};
+ghost use Rattle.programs.specs.Checked.{Checked};
 use crate::outcome;
 use crate::outcome::Mistake;
 use crate::outcome::Outcome;
@@ -59,6 +60,7 @@ fn write_lines(draft: Draft, buffer: &mut [u8], end: usize) -> Written
 // Checks the file, and writes its lines masked as long as it is not refused.
 fn copy_by(edition: u64, fd: i32, draft: Draft, buffer: &mut [u8]) -> Outcome
     requires { ⌜ 0 < length (now buffer) ⌝ }
+    ensures { λ r. ⌜ Checked edition r ⌝ }
 {
     let mut stream = Stream::open(edition);
     let mut tail = 0;
@@ -72,7 +74,7 @@ fn copy_by(edition: u64, fd: i32, draft: Draft, buffer: &mut [u8]) -> Outcome
         let end = tail + size;
         stream = stream.take(&buffer[tail..end]);
         if outcome::is_decided(stream.answer()) {
-            return Outcome::Answer(stream.answer());
+            return Outcome::Answer(stream.end().answer());
         }
         let Written::Tail(left) = write_lines(draft, buffer, end) else {
             return Outcome::Mistake(Mistake::CannotWrite);
@@ -84,13 +86,17 @@ fn copy_by(edition: u64, fd: i32, draft: Draft, buffer: &mut [u8]) -> Outcome
 }
 
 // Begins the copy and fills it.
-fn copy(edition: u64, fd: i32, draft: Draft) -> Outcome {
+fn copy(edition: u64, fd: i32, draft: Draft) -> Outcome
+    ensures { λ r. ⌜ Checked edition r ⌝ }
+{
     let mut buffer = [0u8; CHUNK];
     copy_by(edition, fd, draft, &mut buffer)
 }
 
 // Gives an accepted file's copy its name, and removes any other.
-fn finish(outcome: Outcome, draft: Draft, out: &[u8]) -> Outcome {
+fn finish(outcome: Outcome, draft: Draft, out: &[u8]) -> Outcome
+    ensures { λ r. ⌜ ((edition : ℕ) → Checked edition outcome → Checked edition r) ⌝ }
+{
     if !outcome::is_accepted(outcome) {
         draft.discard(out);
         return outcome;
@@ -102,7 +108,9 @@ fn finish(outcome: Outcome, draft: Draft, out: &[u8]) -> Outcome {
 }
 
 // Masks what a descriptor reads into the file of this name.
-fn mask_from(edition: u64, fd: i32, out: &[u8]) -> Outcome {
+fn mask_from(edition: u64, fd: i32, out: &[u8]) -> Outcome
+    ensures { λ r. ⌜ Checked edition r ⌝ }
+{
     match draft::begin(out) {
         Begun::Failed => Outcome::Mistake(Mistake::CannotWrite),
         Begun::Draft(draft) => finish(copy(edition, fd, draft), draft, out),
@@ -110,7 +118,9 @@ fn mask_from(edition: u64, fd: i32, out: &[u8]) -> Outcome {
 }
 
 // Writes the masked copy of an accepted file. Of any other there is no copy, and what was at `out` is still there.
-pub fn mask(edition: u64, file: &[u8], out: &[u8]) -> Outcome {
+pub fn mask(edition: u64, file: &[u8], out: &[u8]) -> Outcome
+    ensures { λ r. ⌜ Checked edition r ⌝ }
+{
     let fd = os::open_read(file);
     if fd < 0 {
         return Outcome::Mistake(Mistake::CannotOpen);

@@ -1,4 +1,5 @@
 // The day sheet of a card file, from file to file; and a sheet that is read again.
+ghost use Rattle.programs.specs.Checked.{Checked};
 use crate::card;
 use crate::outcome::Mistake;
 use crate::outcome::Outcome;
@@ -46,7 +47,9 @@ fn save(edition: u64, numbers: Accepted, out: &[u8]) -> bool {
 }
 
 // Saves the sheet of an accepted file; any other answer has none.
-fn save_answer(edition: u64, answer: CardAnswer, out: &[u8]) -> Outcome {
+fn save_answer(edition: u64, answer: CardAnswer, out: &[u8]) -> Outcome
+    ensures { λ r. ⌜ (Checked edition (Outcome.Answer answer) → Checked edition r) ⌝ }
+{
     match answer {
         CardAnswer::GoingOn => Outcome::Answer(answer),
         CardAnswer::Refused(_) => Outcome::Answer(answer),
@@ -61,7 +64,9 @@ fn save_answer(edition: u64, answer: CardAnswer, out: &[u8]) -> Outcome {
 }
 
 // Checks the card file of a name.
-fn check_file(edition: u64, file: &[u8]) -> Outcome {
+fn check_file(edition: u64, file: &[u8]) -> Outcome
+    ensures { λ r. ⌜ Checked edition r ⌝ }
+{
     let fd = os::open_read(file);
     if fd < 0 {
         return Outcome::Mistake(Mistake::CannotOpen);
@@ -72,7 +77,9 @@ fn check_file(edition: u64, file: &[u8]) -> Outcome {
 }
 
 // Writes the day sheet of an accepted file. Of any other there is no sheet, and what was at `out` is still there.
-pub fn write(edition: u64, file: &[u8], out: &[u8]) -> Outcome {
+pub fn write(edition: u64, file: &[u8], out: &[u8]) -> Outcome
+    ensures { λ r. ⌜ Checked edition r ⌝ }
+{
     let outcome = check_file(edition, file);
     match outcome {
         Outcome::Mistake(_) => outcome,
