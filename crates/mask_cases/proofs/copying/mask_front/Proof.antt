@@ -2,7 +2,7 @@
 use Prim.Native.Nat.{_-_, _≤_}
 use native.Mathlib.Omega.{arith}
 use lib.ListN.{length, take, drop, length-take}
-use Rattle.mask_cases.proofs.Finished.{finished-within}
+use Rattle.card_mask.proofs.Finished.{finished-within}
 use borrow.Author.Needs.{needs}
 use Rattle.mask_cases.proofs.copying.mask_front.Statement.{statement}
 use Rattle.mask_cases.proofs.copying.mask_front.Tie as tie
