@@ -8,11 +8,11 @@ use lib.ListN.{length}
 use lib.Dec.{leb, eqb}
 use Rattle.refusal.specs.declared.Refusal.{Refusal}
 use Rattle.text.specs.Literal.{ascii, sameBytes}
-use Rattle.text.specs.Part.{positions}
+use Rattle.text.specs.Part.{positions, placeOf}
 use Rattle.text.proofs.Alphabets.{both-left, both-right}
 use Rattle.card_record.specs.Field.{partOf}
 use Rattle.card_field.specs.declared.FieldAnswer.the-variants.{Offered, Refused}
-use Rattle.card_field.specs.Field.{numbered, offered, refusalOf, partAs, fieldOf}
+use Rattle.card_field.specs.Field.{numbered, offered, refusalOf, partAs, fieldOf, placeAs, placeOfField}
 
 was-offered : (p q r : Bool) (x y z : Refusal) → cond p (cond q (cond r Offered (Refused x)) (Refused y)) (Refused z) ≡ Offered → r ≡ true
 was-offered true true true x y z e = refl
@@ -37,11 +37,19 @@ not-the-card r n e =
     let rest = both-right (leb 1 n) (leb n 26 && not (eqb n 13)) o in
     eqb-false _ _ (not-true _ (both-right (leb n 26) (not (eqb n 13)) rest))
 
--- what is handed back
+-- what is handed back, and where it begins
 pub is-field : (r : List ℕ) (n : ℕ) → refusalOf r n ≡ Offered → fieldOf r n ≡ partOf (numbered n) r
 unfolding partAs
 is-field r n e = rw e
 
+pub is-place : (r : List ℕ) (n : ℕ) → refusalOf r n ≡ Offered → placeOfField r n ≡ placeOf (numbered n .0) (numbered n .1) r
+unfolding placeAs
+is-place r n e = rw e
+
 pub is-empty : (r : List ℕ) (n : ℕ) (x : Refusal) → refusalOf r n ≡ Refused x → fieldOf r n ≡ []
 unfolding partAs
 is-empty r n x e = rw e
+
+pub in-front : (r : List ℕ) (n : ℕ) (x : Refusal) → refusalOf r n ≡ Refused x → placeOfField r n ≡ 0
+unfolding placeAs
+in-front r n x e = rw e

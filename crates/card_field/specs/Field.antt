@@ -7,7 +7,7 @@ use lib.Dec.{leb, eqb}
 use Rattle.refusal.specs.declared.Cause.the-variants.{KindUnknown, WrongWidth, FieldNotOffered}
 use Rattle.refusal.specs.RefusalList.{numberOf}
 use Rattle.text.specs.Literal.{ascii, sameBytes}
-use Rattle.text.specs.Part.{positions}
+use Rattle.text.specs.Part.{positions, placeOf}
 use Rattle.card_record.specs.declared.content.Content.the-variants.{Text}
 use Rattle.card_record.specs.declared.field.Field.{Field}
 use Rattle.card_record.specs.Field.{field, partOf}
@@ -42,6 +42,14 @@ partAs (Refused x) r n = []
 
 abbrev pub fieldOf : List ℕ → ℕ → List ℕ
 fieldOf r n = partAs (refusalOf r n) r n
+
+-- the place, from 0, at which that part begins; an empty part begins at 0
+unfoldable pub placeAs : FieldAnswer → List ℕ → ℕ → ℕ
+placeAs Offered r n = placeOf (numbered n .0) (numbered n .1) r
+placeAs (Refused x) r n = 0
+
+abbrev pub placeOfField : List ℕ → ℕ → ℕ
+placeOfField r n = placeAs (refusalOf r n) r n
 
 -- "a second question gives the number": the paper's row for each answer
 pub record Row : Type 0 where

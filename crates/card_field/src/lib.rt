@@ -1,8 +1,8 @@
 // One field of a lone CV record, handed back as a part of it; never the card.
 ghost use mathlib.Core.Path.{_≡_};
 ghost use Prim.Native.Nat.{_≤_};
-ghost use Rattle.card_record.specs.Field.{partOf};
-ghost use Rattle.card_field.specs.Field.{numbered, offered, fieldOf, refusalOf};
+ghost use Rattle.text.specs.Part.{PartOf, AtPositions};
+ghost use Rattle.card_field.specs.Field.{numbered, offered, fieldOf, placeOfField, refusalOf};
 use card_record::cv::Cv;
 use refusal::Cause;
 use refusal::Refusal;
@@ -47,7 +47,7 @@ const ENDS: [usize; 27] = [
 // The part of a record that is the field with such a number.
 fn part_numbered(bytes: &[u8], number: u64) -> &[u8]
     requires { ⌜ (1 ≤ number) × (number ≤ 26) ⌝ }
-    ensures { λ r. ⌜ now r ≡ partOf (numbered number) (now (bytes .entry)) ⌝ }
+    ensures { λ r. ⌜ AtPositions (numbered number .0) (numbered number .1) (bytes .entry) r ⌝ }
 {
     let at = number as usize;
     let before = ENDS[at - 1];
@@ -97,7 +97,7 @@ fn is_offered(number: u64) -> bool
 
 // The part of the record that is the field; an empty part where it is refused.
 pub fn field(bytes: &[u8], number: u64) -> &[u8]
-    ensures { λ r. ⌜ now r ≡ fieldOf (now (bytes .entry)) number ⌝ }
+    ensures { λ r. ⌜ PartOf (bytes .entry) (placeOfField (now (bytes .entry)) number) (fieldOf (now (bytes .entry)) number) r ⌝ }
 {
     match field_answer(bytes, number) {
         FieldAnswer::Offered => part_numbered(bytes, number),

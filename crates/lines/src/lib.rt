@@ -1,5 +1,6 @@
 // The cut of a file's bytes into pieces at each LF.
 ghost use mathlib.Core.Path.{_≡_};
+ghost use Rattle.text.specs.Part.{PartOf};
 ghost use Rattle.lines.specs.Lines.{noLf, nextLf, endsInCr, withoutLast};
 
 pub enum Found {
@@ -70,7 +71,7 @@ pub fn ends_in_cr(piece: &[u8]) -> bool
 
 // A piece without its last byte.
 pub fn without_last(piece: &[u8]) -> &[u8]
-    ensures { λ r. ⌜ now r ≡ withoutLast (now (piece .entry)) ⌝ }
+    ensures { λ r. ⌜ PartOf (piece .entry) 0 (withoutLast (now (piece .entry))) r ⌝ }
 {
     let length = piece.len();
     if length == 0 {

@@ -1,5 +1,6 @@
 // One card field: whether it is well formed, its valid characters, its hidden places, and the field masked in place.
 ghost use mathlib.Core.Path.{_≡_};
+ghost use Rattle.text.specs.Part.{PartOf};
 ghost use Rattle.pan.specs.CardField.{wellFormed, leadingZeros, validCharacters};
 ghost use Rattle.pan.specs.HiddenPlaces.{shownInFront, shownAtEnd, hiddenPlaces};
 ghost use Rattle.pan.specs.Masked.{masked};
@@ -51,7 +52,7 @@ fn leading_zeros(field: &[u8]) -> usize
 
 // The characters after the leading zeros, stars included.
 pub fn valid_characters(field: &[u8]) -> &[u8]
-    ensures { λ r. ⌜ now r ≡ validCharacters (now (field .entry)) ⌝ }
+    ensures { λ r. ⌜ PartOf (field .entry) (leadingZeros (now (field .entry))) (validCharacters (now (field .entry))) r ⌝ }
 {
     let zeros = leading_zeros(field);
     &field[zeros..]

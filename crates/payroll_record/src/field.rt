@@ -2,7 +2,8 @@
 ghost use mathlib.Core.Path.{_≡_};
 ghost use Rattle.refusal.specs.Fault.{ruleOf};
 ghost use Rattle.refusal.specs.Rules.{firstBroken};
-ghost use Rattle.payroll_record.specs.Field.{partOf, numberIn, digitRules, numberRules, dayRules};
+ghost use Rattle.text.specs.Part.{AtPositions};
+ghost use Rattle.payroll_record.specs.Field.{numberIn, digitRules, numberRules, dayRules};
 use refusal::Cause;
 use refusal::Fault;
 use text::alphabet::Alphabet;
@@ -24,7 +25,7 @@ impl Field {
 
     // The part of a record that is this field, as far as the record goes.
     pub fn part(self, bytes: &[u8]) -> &[u8]
-        ensures { λ r. ⌜ now r ≡ partOf self (now (bytes .entry)) ⌝ }
+        ensures { λ r. ⌜ AtPositions (self .0) (self .1) (bytes .entry) r ⌝ }
     {
         text::part::part_of(self.0, self.1, bytes)
     }

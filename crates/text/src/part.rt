@@ -1,7 +1,7 @@
 // A part of a record by its positions.
 ghost use mathlib.Core.Path.{_≡_};
 ghost use Prim.Native.Nat.{_-_, min};
-ghost use Rattle.text.specs.Part.{positions};
+ghost use Rattle.text.specs.Part.{AtPositions};
 
 // The smaller of two numbers.
 fn smaller(a: usize, b: usize) -> usize
@@ -19,7 +19,7 @@ fn before(position: usize) -> usize
 
 // The bytes at the positions from first to last, counted from 1, as far as there are any.
 pub fn part_of(first: usize, last: usize, bytes: &[u8]) -> &[u8]
-    ensures { λ r. ⌜ now r ≡ positions first last (now (bytes .entry)) ⌝ }
+    ensures { λ r. ⌜ AtPositions first last (bytes .entry) r ⌝ }
 {
     let to = smaller(last, bytes.len());
     let from = smaller(before(first), to);

@@ -1,7 +1,8 @@
 -- `card_field::field` meets its contract: the answer decides between the field's part and an empty one.
-use mathlib.Core.Path.{sym, _∙_}
+use mathlib.Core.Path.{refl, sym}
+use native.Mathlib.Omega.{arith}
 use Rattle.refusal.proofs.Rows.{told}
-use Rattle.card_field.proofs.Offers.{in-range, is-field, is-empty}
+use Rattle.card_field.proofs.Offers.{in-range, is-field, is-place, is-empty, in-front}
 use borrow.Author.Needs.{needs}
 use Rattle.card_field.proofs.field.Statement.{statement}
 use Rattle.card_field.proofs.field.Tie as tie
@@ -23,10 +24,13 @@ slice-aggregate-result c = search needs
 
 returns : tie.Need-returns
 returns c =
-    c .part-numbered .ensures ∙ sym (is-field _ _ (told (c .before .before .before .field-answer .ensures) (c .before .enum-told .given .1)))
+    let offered = told (c .before .before .before .field-answer .ensures) (c .before .enum-told .given .1) in
+    rw (← is-field _ _ offered, ← is-place _ _ offered) at (c .part-numbered .ensures)
 
 returns-2 : tie.Need-returns-2
-returns-2 c = sym (is-empty _ _ _ (told (c .before .before .before .field-answer .ensures) (c .before .enum-told2 .given .1)))
+returns-2 c =
+    let refused = told (c .before .before .before .field-answer .ensures) (c .before .enum-told2 .given .1) in
+    record { holds = sym (is-empty _ _ _ refused); block = refl; begins = omega (arith, in-front _ _ _ refused) }
 
 pub field-spec : {M : Type 1} → statement M
 field-spec =

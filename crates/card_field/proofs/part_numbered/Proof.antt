@@ -1,8 +1,5 @@
 -- `card_field::part_numbered` meets its contract: the ends on both sides of the field are its positions.
-use mathlib.Core.Path.{_∙_, ap₂}
 use native.Mathlib.Omega.{arith}
-use denote.Ref.{now}
-use Rattle.text.specs.Part.{positions}
 use Rattle.card_field.proofs.Ends.{first-is, last-is, before-is-small}
 use borrow.Author.Needs.{needs}
 use Rattle.card_field.proofs.part_numbered.Statement.{statement}
@@ -32,7 +29,7 @@ part-of-requires c κs = search needs
 returns : tie.Need-returns
 returns c =
     let start = c .before .before in
-    c .part-of .ensures ∙ ap₂ (λ first last. positions first last (now (start .args .bytes))) (first-is _ (start .pre .0) (start .pre .1)) (last-is _ (start .pre .0) (start .pre .1))
+    rw (first-is _ (start .pre .0) (start .pre .1), last-is _ (start .pre .0) (start .pre .1)) at (c .part-of .ensures)
 
 pub part-numbered-spec : {M : Type 1} → statement M
 part-numbered-spec =

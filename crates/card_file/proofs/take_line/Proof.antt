@@ -18,7 +18,7 @@ feed-requires c κs = search needs
 returns : tie.Need-returns
 returns c =
     let st = c .before .before .before .before .before .args .state in
-    c .feed .ensures ∙ ap (fedOf st) (c .before .without-last .ensures) ∙
+    c .feed .ensures ∙ ap (fedOf st) (c .before .without-last .ensures .holds) ∙
     record-line st _ (sym (c .before .before .before .ends-in-cr .ensures) ∙ c .before .before .if1 .taken)
 
 no-line-end-requires : tie.Need-no-line-end-requires

@@ -27,7 +27,7 @@ ends : (c : tie.After-known-told) → endsInCr (now (c .before .before .before .
 ends c = told (c .before .before .before .before .before .before .before .ends-in-cr .ensures) (not-false _ (c .before .before .before .before .before .before .if1 .left))
 
 has-card : (c : tie.After-known-told) → cardPart (withoutLast (now (c .before .before .before .before .before .before .before .before .before .before .args .piece))) ≡ From (c .before .from .given .0 .0)
-has-card c = ap cardPart (sym (c .before .before .before .before .without-last .ensures)) ∙ told (c .before .before .before .card-part .ensures) (c .before .from .given .1)
+has-card c = ap cardPart (sym (c .before .before .before .before .without-last .ensures .holds)) ∙ told (c .before .before .before .card-part .ensures) (c .before .from .given .1)
 
 inside : (c : tie.After-known-told) → c .before .from .given .0 .0 + 19 ≤ length (now (c .before .before .before .before .before .before .before .before .before .before .args .piece))
 inside c =
@@ -60,7 +60,7 @@ same-length-2 c = search needs
 returns-2 : tie.Need-returns-2
 returns-2 c =
     no-card _ (told (c .before .before .before .before .before .before .ends-in-cr .ensures) (not-false _ (c .before .before .before .before .before .if1 .left)))
-    (ap cardPart (sym (c .before .before .before .without-last .ensures)) ∙ told (c .before .before .card-part .ensures) (c .enum-told .given .1))
+    (ap cardPart (sym (c .before .before .before .without-last .ensures .holds)) ∙ told (c .before .before .card-part .ensures) (c .enum-told .given .1))
 
 add-mask : tie.Need-add-mask
 add-mask c = omega (arith, inside c)

@@ -12,7 +12,7 @@ is-in-set-requires : tie.Need-is-in-set-requires
 is-in-set-requires c κs = search needs
 
 returns : tie.Need-returns
-returns c = c .is-in-set .ensures ∙ ap (inSet _ _) (c .before .part .ensures)
+returns c = c .is-in-set .ensures ∙ ap (inSet _ _) (c .before .part .ensures .holds)
 
 pub is-in-spec : {M : Type 1} → statement M
 is-in-spec = tie.close (tie.spec part-requires is-in-set-requires returns)

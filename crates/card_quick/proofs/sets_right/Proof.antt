@@ -39,7 +39,7 @@ returns c =
     together (c .both3 .ensures) (c1 .before .is-in .ensures)
     (together (c .before .both2 .ensures) (c1 .is-in2 .ensures)
     (together (c .before .before .both .ensures) (c4 .before .before .is-in3 .ensures)
-    (c4 .well-formed .ensures ∙ ap wellFormed (c4 .before .part .ensures))))
+    (c4 .well-formed .ensures ∙ ap wellFormed (c4 .before .part .ensures .holds))))
 
 pub sets-right-spec : {M : Type 1} → statement M
 sets-right-spec =

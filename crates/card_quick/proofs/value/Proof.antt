@@ -14,7 +14,7 @@ value-if-digits-requires : tie.Need-value-if-digits-requires
 value-if-digits-requires c κs = search needs
 
 returns : tie.Need-returns
-returns c = c .value-if-digits .ensures ∙ ap (λ (p : List ℕ). valueIfDigits p) (c .before .part .ensures)
+returns c = c .value-if-digits .ensures ∙ ap (λ (p : List ℕ). valueIfDigits p) (c .before .part .ensures .holds)
 
 pub value-spec : {M : Type 1} → statement M
 value-spec = tie.close (tie.spec part-requires value-if-digits-requires returns)

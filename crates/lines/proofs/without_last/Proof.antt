@@ -1,5 +1,6 @@
 -- `lines::without_last` meets its contract: all bytes but one, of which a piece with no byte has none.
-use mathlib.Core.Path.{sym}
+use mathlib.Core.Path.{refl, sym}
+use native.Mathlib.Omega.{arith}
 use denote.Ref.{now}
 use lib.Seq.{length-take-le}
 use borrow.Author.Needs.{needs}
@@ -11,7 +12,7 @@ slice-aggregate-result : tie.Need-slice-aggregate-result
 slice-aggregate-result c = search needs
 
 returns : tie.Need-returns
-returns c = sym (nothing-before _ (c .before .if1 .taken))
+returns c = record { holds = sym (nothing-before _ (c .before .if1 .taken)); block = refl; begins = omega arith }
 
 sub-result : tie.Need-sub-result
 sub-result c = search needs
@@ -20,7 +21,7 @@ slice-aggregate-result-2 : tie.Need-slice-aggregate-result-2
 slice-aggregate-result-2 c = sym (length-take-le _ (now (c .before .before .args .piece)) (search needs))
 
 returns-2 : tie.Need-returns-2
-returns-2 c = sym (all-but-one _)
+returns-2 c = record { holds = sym (all-but-one _); block = refl; begins = omega arith }
 
 pub without-last-spec : {M : Type 1} → statement M
 without-last-spec =

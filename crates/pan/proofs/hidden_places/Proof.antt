@@ -42,7 +42,7 @@ valid-characters-requires c κs = search needs
 sub-zeros : tie.Need-sub-zeros
 sub-zeros c =
     let w = sym (c .before .before .well-formed .ensures) ∙ not-false _ (c .before .if1 .left) in
-    omega (arith, counted _ _ w (c .valid-characters .ensures))
+    omega (arith, counted _ _ w (c .valid-characters .ensures .holds))
 
 shown-in-front-requires : tie.Need-shown-in-front-requires
 shown-in-front-requires c κs = search needs
@@ -60,7 +60,7 @@ returns-2 : tie.Need-returns-2
 returns-2 c =
     let v = c .before .before in
     let w = sym (v .before .before .well-formed .ensures) ∙ not-false _ (v .before .if1 .left) in
-    placed _ _ _ _ w (v .valid-characters .ensures) (c .before .shown-in-front .ensures) (c .shown-at-end .ensures)
+    placed _ _ _ _ w (v .valid-characters .ensures .holds) (c .before .shown-in-front .ensures) (c .shown-at-end .ensures)
 
 pub hidden-places-spec : {M : Type 1} → statement M
 hidden-places-spec =

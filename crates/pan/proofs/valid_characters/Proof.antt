@@ -1,6 +1,6 @@
 -- `pan::valid_characters` meets its contract: the part behind the leading zeros reaches to the end of the field.
 use Prim.Native.Nat.{_-_}
-use mathlib.Core.Path.{_∙_, ap}
+use mathlib.Core.Path.{refl, _∙_, ap}
 use native.Mathlib.Omega.{arith}
 use lib.ListN.{length, drop, length-drop}
 use lib.Seq.{take-all}
@@ -25,8 +25,12 @@ returns : tie.Need-returns
 returns c =
     let field = c .before .before .before .args .field .now in
     let zeros = c .before .leading-zeros .result in
-    take-all (length field - zeros) (drop zeros field) (omega (arith, length-drop zeros field)) ∙
-    ap (λ z. drop z field) (c .before .leading-zeros .ensures)
+    record {
+      holds = take-all (length field - zeros) (drop zeros field) (omega (arith, length-drop zeros field)) ∙
+          ap (λ z. drop z field) (c .before .leading-zeros .ensures);
+      block = refl;
+      begins = omega (arith, c .before .leading-zeros .ensures);
+    }
 
 pub valid-characters-spec : {M : Type 1} → statement M
 valid-characters-spec =

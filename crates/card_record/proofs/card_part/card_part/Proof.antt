@@ -17,14 +17,14 @@ equals-requires c κs = search needs
 
 returns : tie.Need-returns
 unfolding cardPartIn
-returns c = rw (compared _ (c .before .equals .ensures) (c .before .before .before .part-of .ensures) (not-true _ (c .if1 .taken)))
+returns c = rw (compared _ (c .before .equals .ensures) (c .before .before .before .part-of .ensures .holds) (not-true _ (c .if1 .taken)))
 
 returns-2 : tie.Need-returns-2
 unfolding cardPartIn
 returns-2 c =
     let c1 = c .before in
     rw (
-      compared _ (c1 .before .equals .ensures) (c1 .before .before .before .part-of .ensures) (not-false _ (c1 .if1 .left)),
+      compared _ (c1 .before .equals .ensures) (c1 .before .before .before .part-of .ensures .holds) (not-false _ (c1 .if1 .left)),
       ne-eqb _ _ (c .if2 .taken),
     )
 
@@ -36,7 +36,7 @@ unfolding cardPartIn
 returns-3 c =
     let c1 = c .before .before in
     rw (
-      compared _ (c1 .before .equals .ensures) (c1 .before .before .before .part-of .ensures) (not-false _ (c1 .if1 .left)),
+      compared _ (c1 .before .equals .ensures) (c1 .before .before .before .part-of .ensures .holds) (not-false _ (c1 .if1 .left)),
       eq-eqb _ _ (c .before .if2 .left),
     )
 

@@ -26,7 +26,7 @@ equals-requires c κs = search needs
 returns : tie.Need-returns
 unfolding kindNamed
 returns c =
-    named (c .before .before .before .part-of .ensures) (rw (told (c .before .equals .ensures) (c .if1 .taken)))
+    named (c .before .before .before .part-of .ensures .holds) (rw (told (c .before .equals .ensures) (c .if1 .taken)))
 
 slice-aggregate-equals-2 : tie.Need-slice-aggregate-equals-2
 slice-aggregate-equals-2 c = search needs
@@ -38,7 +38,7 @@ returns-2 : tie.Need-returns-2
 unfolding kindNamed
 returns-2 c =
     let c1 = c .before .before .before in
-    named (c1 .before .before .before .part-of .ensures)
+    named (c1 .before .before .before .part-of .ensures .holds)
     (rw (
       told (c1 .before .equals .ensures) (c1 .if1 .left),
       told (c .before .equals2 .ensures) (c .if2 .taken),
@@ -55,7 +55,7 @@ unfolding kindNamed
 returns-3 c =
     let c2 = c .before .before .before in
     let c1 = c2 .before .before .before in
-    named (c1 .before .before .before .part-of .ensures)
+    named (c1 .before .before .before .part-of .ensures .holds)
     (rw (
       told (c1 .before .equals .ensures) (c1 .if1 .left),
       told (c2 .before .equals2 .ensures) (c2 .if2 .left),
@@ -74,7 +74,7 @@ returns-4 c =
     let c3 = c .before .before .before in
     let c2 = c3 .before .before .before in
     let c1 = c2 .before .before .before in
-    named (c1 .before .before .before .part-of .ensures)
+    named (c1 .before .before .before .part-of .ensures .holds)
     (rw (
       told (c1 .before .equals .ensures) (c1 .if1 .left),
       told (c2 .before .equals2 .ensures) (c2 .if2 .left),
@@ -95,7 +95,7 @@ returns-5 c =
     let c3 = c4 .before .before .before in
     let c2 = c3 .before .before .before in
     let c1 = c2 .before .before .before in
-    named (c1 .before .before .before .part-of .ensures)
+    named (c1 .before .before .before .part-of .ensures .holds)
     (rw (
       told (c1 .before .equals .ensures) (c1 .if1 .left),
       told (c2 .before .equals2 .ensures) (c2 .if2 .left),
@@ -111,7 +111,7 @@ returns-6 c =
     let c3 = c4 .before .before .before in
     let c2 = c3 .before .before .before in
     let c1 = c2 .before .before .before in
-    named (c1 .before .before .before .part-of .ensures)
+    named (c1 .before .before .before .part-of .ensures .holds)
     (rw (
       told (c1 .before .equals .ensures) (c1 .if1 .left),
       told (c2 .before .equals2 .ensures) (c2 .if2 .left),

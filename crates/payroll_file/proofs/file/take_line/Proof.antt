@@ -22,7 +22,7 @@ took-requires c κs = search needs
 returns : tie.Need-returns
 returns c =
     c .took .ensures ∙
-    ap (tookOf (c .before .before .before .before .before .before .args .state)) (c .before .read .ensures ∙ ap readingOf (c .before .before .without-last .ensures)) ∙
+    ap (tookOf (c .before .before .before .before .before .before .args .state)) (c .before .read .ensures ∙ ap readingOf (c .before .before .without-last .ensures .holds)) ∙
     sym (rw (told (c .before .before .before .before .ends-in-cr .ensures) (c .before .before .before .if1 .taken)))
 
 no-line-end-requires : tie.Need-no-line-end-requires

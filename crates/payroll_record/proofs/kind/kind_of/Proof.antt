@@ -31,7 +31,7 @@ returns : tie.Need-returns
 unfolding kindNamed
 returns c =
     let c1 = c .before in
-    named _ (c1 .before .before .before .part .ensures) (rw (told (c1 .before .equals .ensures) (c1 .if1 .taken)) (c .segment-of .ensures))
+    named _ (c1 .before .before .before .part .ensures .holds) (rw (told (c1 .before .equals .ensures) (c1 .if1 .taken)) (c .segment-of .ensures))
 
 slice-aggregate-equals-2 : tie.Need-slice-aggregate-equals-2
 slice-aggregate-equals-2 c = search needs
@@ -43,7 +43,7 @@ returns-2 : tie.Need-returns-2
 unfolding kindNamed
 returns-2 c =
     let c1 = c .before .before .before in
-    named _ (c1 .before .before .before .part .ensures)
+    named _ (c1 .before .before .before .part .ensures .holds)
     (rw (
       told (c1 .before .equals .ensures) (c1 .if1 .left),
       told (c .before .equals2 .ensures) (c .if2 .taken),
@@ -60,7 +60,7 @@ unfolding kindNamed
 returns-3 c =
     let c2 = c .before .before .before in
     let c1 = c2 .before .before .before in
-    named _ (c1 .before .before .before .part .ensures)
+    named _ (c1 .before .before .before .part .ensures .holds)
     (rw (
       told (c1 .before .equals .ensures) (c1 .if1 .left),
       told (c2 .before .equals2 .ensures) (c2 .if2 .left),
@@ -79,7 +79,7 @@ returns-4 c =
     let c3 = c .before .before .before in
     let c2 = c3 .before .before .before in
     let c1 = c2 .before .before .before in
-    named _ (c1 .before .before .before .part .ensures)
+    named _ (c1 .before .before .before .part .ensures .holds)
     (rw (
       told (c1 .before .equals .ensures) (c1 .if1 .left),
       told (c2 .before .equals2 .ensures) (c2 .if2 .left),
@@ -100,7 +100,7 @@ returns-5 c =
     let c3 = c4 .before .before .before in
     let c2 = c3 .before .before .before in
     let c1 = c2 .before .before .before in
-    named _ (c1 .before .before .before .part .ensures)
+    named _ (c1 .before .before .before .part .ensures .holds)
     (rw (
       told (c1 .before .equals .ensures) (c1 .if1 .left),
       told (c2 .before .equals2 .ensures) (c2 .if2 .left),
@@ -116,7 +116,7 @@ returns-6 c =
     let c3 = c4 .before .before .before in
     let c2 = c3 .before .before .before in
     let c1 = c2 .before .before .before in
-    named _ (c1 .before .before .before .part .ensures)
+    named _ (c1 .before .before .before .part .ensures .holds)
     (rw (
       told (c1 .before .equals .ensures) (c1 .if1 .left),
       told (c2 .before .equals2 .ensures) (c2 .if2 .left),

@@ -26,7 +26,7 @@ equals-requires c κs = search needs
 returns : tie.Need-returns
 unfolding segmentNamed
 returns c =
-    named (c .before .before .before .part .ensures)
+    named (c .before .before .before .part .ensures .holds)
     (rw (told (c .before .equals .ensures) (c .if1 .taken)))
 
 slice-aggregate-equals-2 : tie.Need-slice-aggregate-equals-2
@@ -39,7 +39,7 @@ returns-2 : tie.Need-returns-2
 unfolding segmentNamed
 returns-2 c =
     let c1 = c .before .before .before in
-    named (c1 .before .before .before .part .ensures)
+    named (c1 .before .before .before .part .ensures .holds)
     (rw (
       told (c1 .before .equals .ensures) (c1 .if1 .left),
       told (c .before .equals2 .ensures) (c .if2 .taken),
@@ -56,7 +56,7 @@ unfolding segmentNamed
 returns-3 c =
     let c2 = c .before .before .before in
     let c1 = c2 .before .before .before in
-    named (c1 .before .before .before .part .ensures)
+    named (c1 .before .before .before .part .ensures .holds)
     (rw (
       told (c1 .before .equals .ensures) (c1 .if1 .left),
       told (c2 .before .equals2 .ensures) (c2 .if2 .left),
@@ -68,7 +68,7 @@ unfolding segmentNamed
 returns-4 c =
     let c2 = c .before .before .before in
     let c1 = c2 .before .before .before in
-    named (c1 .before .before .before .part .ensures)
+    named (c1 .before .before .before .part .ensures .holds)
     (rw (
       told (c1 .before .equals .ensures) (c1 .if1 .left),
       told (c2 .before .equals2 .ensures) (c2 .if2 .left),

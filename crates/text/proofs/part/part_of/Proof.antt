@@ -1,6 +1,7 @@
 -- `text::part::part_of` meets its contract: places that are cut down to the length name the same part.
 use Prim.Native.Nat.{ℕ, min}
-use mathlib.Core.Path.{_∙_, ap}
+use mathlib.Core.Path.{refl, _∙_, ap}
+use native.Mathlib.Omega.{arith}
 use Rattle.text.proofs.Parts.{clipped}
 use borrow.Author.Needs.{needs}
 use Rattle.text.proofs.part.part_of.Statement.{statement}
@@ -26,8 +27,9 @@ part-result-end c = search needs
 
 returns : tie.Need-returns
 returns c =
-    clipped _ _ _ _ _ (c .before .before .before .smaller .ensures)
-    (c .before .smaller2 .ensures ∙ ap (λ (n : ℕ). min n (c .before .before .before .smaller .result)) (c .before .before .before2 .ensures))
+    let to = c .before .before .before .smaller in
+    let from = c .before .smaller2 .ensures ∙ ap (λ (n : ℕ). min n (to .result)) (c .before .before .before2 .ensures) in
+    record { holds = clipped _ _ _ _ _ (to .ensures) from; block = refl; begins = omega (arith, to .ensures, from) }
 
 pub part-of-spec : {M : Type 1} → statement M
 part-of-spec =

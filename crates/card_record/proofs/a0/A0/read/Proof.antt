@@ -25,7 +25,7 @@ returns : tie.Need-returns
 returns c =
     let c2 = c .before .before .before .before in
     rw
-    (c2 .before .number .ensures, c2 .number2 .ensures, c .before .equals .ensures, c .before .before .before .part .ensures, c .number3 .ensures)
+    (c2 .before .number .ensures, c2 .number2 .ensures, c .before .equals .ensures, c .before .before .before .part .ensures .holds, c .number3 .ensures)
 
 pub read-spec : {M : Type 1} → statement M
 read-spec =

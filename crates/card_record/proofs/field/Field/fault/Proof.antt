@@ -10,7 +10,7 @@ fault-of-requires : tie.Need-fault-of-requires
 fault-of-requires c κs = search needs
 
 returns : tie.Need-returns
-returns c = rw (c .before .part .ensures) at (c .fault-of .ensures)
+returns c = rw (c .before .part .ensures .holds) at (c .fault-of .ensures)
 
 pub fault-spec : {M : Type 1} → statement M
 fault-spec = tie.close (tie.spec part-requires fault-of-requires returns)

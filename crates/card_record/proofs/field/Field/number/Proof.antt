@@ -33,19 +33,19 @@ returns : tie.Need-returns
 unfolding plainNumber
 returns c =
     let called = c .before .before .before in
-    written (called .number-of .ensures) (called .before .part .ensures) (c .before .n .given .1)
+    written (called .number-of .ensures) (called .before .part .ensures .holds) (c .before .n .given .1)
 
 returns-2 : tie.Need-returns-2
 unfolding plainNumber
 returns-2 c =
     let called = c .before .before in
-    written (called .number-of .ensures) (called .before .part .ensures) (c .enum-told .given .1)
+    written (called .number-of .ensures) (called .before .part .ensures .holds) (c .enum-told .given .1)
 
 returns-3 : tie.Need-returns-3
 unfolding plainNumber
 returns-3 c =
     let called = c .before .before in
-    written (called .number-of .ensures) (called .before .part .ensures) (c .enum-told2 .given .1)
+    written (called .number-of .ensures) (called .before .part .ensures .holds) (c .enum-told2 .given .1)
 
 pub number-spec : {M : Type 1} → statement M
 number-spec =

@@ -19,7 +19,7 @@ fault-requires c κs = search needs
 returns : tie.Need-returns
 returns c =
     let column = c .before .before .before .before .args .self .0 in
-    c .fault .ensures ∙ ap (λ w. firstBroken (whenRules column w)) (c .before .day-first .ensures ∙ ap dayFirst (c .before .before .part .ensures))
+    c .fault .ensures ∙ ap (λ w. firstBroken (whenRules column w)) (c .before .day-first .ensures ∙ ap dayFirst (c .before .before .part .ensures .holds))
 
 pub day-fault-spec : {M : Type 1} → statement M
 day-fault-spec = tie.close (tie.spec part-requires day-first-requires fault-requires returns)

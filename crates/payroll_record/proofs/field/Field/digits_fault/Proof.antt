@@ -17,7 +17,7 @@ rule-requires : tie.Need-rule-requires
 rule-requires c κs = search needs
 
 returns : tie.Need-returns
-returns c = one-rule _ _ (c .rule .ensures) (c .before .holds-only .ensures ∙ ap (holdsOnly Digits) (c .before .before .part .ensures))
+returns c = one-rule _ _ (c .rule .ensures) (c .before .holds-only .ensures ∙ ap (holdsOnly Digits) (c .before .before .part .ensures .holds))
 
 pub digits-fault-spec : {M : Type 1} → statement M
 digits-fault-spec = tie.close (tie.spec part-requires holds-only-requires rule-requires returns)

@@ -12,7 +12,7 @@ number-of-requires : tie.Need-number-of-requires
 number-of-requires c κs = search needs
 
 returns : tie.Need-returns
-returns c = c .number-of .ensures ∙ ap numberOf (c .before .part .ensures)
+returns c = c .number-of .ensures ∙ ap numberOf (c .before .part .ensures .holds)
 
 pub number-spec : {M : Type 1} → statement M
 number-spec = tie.close (tie.spec part-requires number-of-requires returns)

@@ -39,7 +39,7 @@ returns c =
     (c .earlier .ensures)
     (c .before .before .digits-fault .ensures)
     (one-rule _ _ (c .before .rule .ensures)
-    (c .before .before .before .is-one-of .ensures ∙ ap (oneByteOf (ascii "12")) (part .part .ensures)))
+    (c .before .before .before .is-one-of .ensures ∙ ap (oneByteOf (ascii "12")) (part .part .ensures .holds)))
 
 pub code-fault-spec : {M : Type 1} → statement M
 code-fault-spec =

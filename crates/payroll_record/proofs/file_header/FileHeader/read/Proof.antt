@@ -23,7 +23,7 @@ returns : tie.Need-returns
 returns c =
     rw (
       c .before .before .before .fault-of .ensures,
-      c .equals .ensures ∙ ap (λ (code : List ℕ). sameBytes code (ascii "2")) (c .before .before .part .ensures),
+      c .equals .ensures ∙ ap (λ (code : List ℕ). sameBytes code (ascii "2")) (c .before .before .part .ensures .holds),
     )
 
 pub read-spec : {M : Type 1} → statement M
