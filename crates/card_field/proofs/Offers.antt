@@ -10,7 +10,7 @@ use Rattle.refusal.specs.declared.Refusal.{Refusal}
 use Rattle.text.specs.Literal.{ascii, sameBytes}
 use Rattle.text.specs.Part.{positions, placeOf}
 use Rattle.text.proofs.Alphabets.{both-left, both-right}
-use Rattle.card_record.specs.Field.{partOf}
+use Rattle.card_content.specs.Field.{partOf}
 use Rattle.card_field.specs.declared.FieldAnswer.the-variants.{Offered, Refused}
 use Rattle.card_field.specs.Field.{numbered, offered, refusalOf, partAs, fieldOf, placeAs, placeOfField}
 

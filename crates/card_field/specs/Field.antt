@@ -8,10 +8,10 @@ use Rattle.refusal.specs.declared.Cause.the-variants.{KindUnknown, WrongWidth, 
 use Rattle.refusal.specs.RefusalList.{numberOf}
 use Rattle.text.specs.Literal.{ascii, sameBytes}
 use Rattle.text.specs.Part.{positions, placeOf}
-use Rattle.card_record.specs.declared.content.Content.the-variants.{Text}
-use Rattle.card_record.specs.declared.field.Field.{Field}
-use Rattle.card_record.specs.Field.{field, partOf}
-use Rattle.card_record.specs.Cv.{cvTable}
+use Rattle.card_content.specs.declared.content.Content.the-variants.{Text}
+use Rattle.card_content.specs.declared.field.Field.{Field}
+use Rattle.card_content.specs.Field.{field, partOf}
+use Rattle.card_sale.specs.Cv.{cvTable}
 use Rattle.card_field.specs.declared.FieldAnswer.{FieldAnswer}
 use Rattle.card_field.specs.declared.FieldAnswer.the-variants.{Offered, Refused}
 

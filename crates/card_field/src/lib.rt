@@ -3,7 +3,7 @@ ghost use mathlib.Core.Path.{_≡_};
 ghost use Prim.Native.Nat.{_≤_};
 ghost use Rattle.text.specs.Part.{PartOf, AtPositions};
 ghost use Rattle.card_field.specs.Field.{numbered, offered, fieldOf, placeOfField, refusalOf};
-use card_record::cv::Cv;
+use card_sale::cv::Cv;
 use refusal::Cause;
 use refusal::Refusal;
 

@@ -20,11 +20,11 @@ use Rattle.calendar.specs.When.{whenRules}
 use Rattle.calendar.specs.Day.{isDay, yearFirst}
 use Rattle.calendar.specs.Time.{isTime, timeOf}
 use Rattle.calendar.proofs.Whens.{Means, year-first, time-of}
-use Rattle.card_record.specs.declared.content.Content.{Content}
-use Rattle.card_record.specs.declared.content.Content.the-variants.{Digits, Text, Day, Time, Card, OneOf}
-use Rattle.card_record.specs.declared.field.Field.{Field}
-use Rattle.card_record.specs.Content.{contentRules}
-use Rattle.card_record.specs.Field.{fieldRules, tableRules, plainNumber, numberIn}
+use Rattle.card_content.specs.declared.content.Content.{Content}
+use Rattle.card_content.specs.declared.content.Content.the-variants.{Digits, Text, Day, Time, Card, OneOf}
+use Rattle.card_content.specs.declared.field.Field.{Field}
+use Rattle.card_content.specs.Content.{contentRules}
+use Rattle.card_content.specs.Field.{fieldRules, tableRules, plainNumber, numberIn}
 use Rattle.card_kept.specs.Fields.{ContentKept, FieldsKept, numberAt}
 
 -- a rule alone

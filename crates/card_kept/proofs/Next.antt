@@ -12,15 +12,15 @@ use Rattle.text.specs.Alphabet.{holdsOnly}
 use Rattle.text.specs.Part.{positions}
 use Rattle.text.proofs.Alphabets.{both, both-left, both-right}
 use Rattle.lines.specs.Lines.{noLf}
-use Rattle.card_record.specs.declared.content.Content.the-variants.{Digits}
-use Rattle.card_record.specs.declared.field.Field.{Field}
+use Rattle.card_content.specs.declared.content.Content.the-variants.{Digits}
+use Rattle.card_content.specs.declared.field.Field.{Field}
+use Rattle.card_content.specs.Field.{field, numberIn}
+use Rattle.card_content.proofs.Ranges.{number-below}
+use Rattle.card_sale.specs.Cv.{joinedRules}
 use Rattle.card_record.specs.declared.kind.Kind.{Kind}
 use Rattle.card_record.specs.declared.kind.Kind.the-variants.{A0, L0, Cv, L9, A9}
-use Rattle.card_record.specs.Field.{field, numberIn}
-use Rattle.card_record.specs.Cv.{joinedRules}
 use Rattle.card_record.specs.Reading.{widthOf, tableOf, numbersOf}
 use Rattle.card_record.proofs.Readings.{Right}
-use Rattle.card_record.proofs.Ranges.{number-below}
 use Rattle.card_run.specs.declared.running.Running.{Running}
 use Rattle.card_run.specs.Running.{nextNumber, joinedAt}
 use Rattle.card_kept.specs.Fields.{FieldsKept, numberAt}

@@ -9,10 +9,10 @@ use Rattle.lines.specs.Lines.{noLf}
 use Rattle.totals.specs.declared.amounts.Totals.{Totals}
 use Rattle.totals.specs.Sum.{capped}
 use Rattle.totals.specs.Amounts.{noTotals, addedTotals}
-use Rattle.card_record.specs.declared.content.Content.the-variants.{Digits, Day}
+use Rattle.card_content.specs.declared.content.Content.the-variants.{Digits, Day}
+use Rattle.card_content.specs.Field.{field}
 use Rattle.card_record.specs.declared.kind.Kind.{Kind}
 use Rattle.card_record.specs.declared.kind.Kind.the-variants.{A0, L0, Cv, L9, A9}
-use Rattle.card_record.specs.Field.{field}
 use Rattle.card_record.specs.Reading.{numbersOf}
 use Rattle.card_run.specs.declared.stage.Stage.{Stage}
 use Rattle.card_run.specs.declared.stage.Stage.the-variants.{BetweenBatches, InBatch, Ended}

@@ -8,7 +8,7 @@ use lib.ListN.{length}
 use Rattle.totals.specs.declared.amounts.Totals.{Totals}
 use Rattle.totals.specs.Amounts.{noTotals, oneSale, addedTotals}
 use Rattle.totals.proofs.Totals.{Figure, sales, gross, discount, net, figureOf, by-figure, figure-added, figure-of-none}
-use Rattle.card_record.specs.Cv.{cvTable, cvOf, payable}
+use Rattle.card_sale.specs.Cv.{cvTable, cvOf, payable}
 use Rattle.card_kept.specs.Fields.{FieldsKept}
 use Rattle.card_kept.specs.Kept.{payableGross, payableDiscount, payableNet, sumOver}
 use Rattle.card_kept.proofs.Sales.{plain-cv, payable-is, payable-below}

@@ -14,10 +14,10 @@ use Rattle.text.specs.Literal.{ascii, sameBytes}
 use Rattle.text.specs.Part.{positions}
 use Rattle.text.proofs.Alphabets.{both, both-right}
 use Rattle.text.proofs.Literals.{same-equal}
+use Rattle.card_content.specs.Field.{tableRules, recordRules}
 use Rattle.card_record.specs.declared.kind.Kind.{Kind}
 use Rattle.card_record.specs.declared.kind.Kind.the-variants.{A0, L0, Cv, L9, A9}
 use Rattle.card_record.specs.declared.kind.KindFound.the-variants.{Known, Unknown}
-use Rattle.card_record.specs.Field.{tableRules, recordRules}
 use Rattle.card_record.specs.Kind.{kindNamed}
 use Rattle.card_record.specs.Reading.{widthOf, tableOf}
 use Rattle.card_record.proofs.Readings.{Right}

@@ -10,12 +10,12 @@ use lib.Dec.{leb, eqb}
 use borrow.Author.Tests.{eq-eqb, ne-eqb, eqb-true, le-leb, leb-true}
 use Rattle.refusal.specs.Rules.{allHold}
 use Rattle.text.proofs.Alphabets.{both-left, both-right}
-use Rattle.card_record.specs.declared.content.ClosedSet.the-variants.{LaunchType}
-use Rattle.card_record.specs.declared.content.Content.the-variants.{Digits, OneOf}
-use Rattle.card_record.specs.declared.cv.Cv.{Cv}
-use Rattle.card_record.specs.Field.{field, numberIn}
-use Rattle.card_record.specs.Cv.{cvTable, cvOf, hasInstalment, payable, joinedRules}
-use Rattle.card_record.proofs.Ranges.{AmountsBelow, cv-below}
+use Rattle.card_content.specs.declared.content.ClosedSet.the-variants.{LaunchType}
+use Rattle.card_content.specs.declared.content.Content.the-variants.{Digits, OneOf}
+use Rattle.card_content.specs.Field.{field, numberIn}
+use Rattle.card_sale.specs.declared.cv.Cv.{Cv}
+use Rattle.card_sale.specs.Cv.{cvTable, cvOf, hasInstalment, payable, joinedRules}
+use Rattle.card_sale.proofs.Ranges.{AmountsBelow, cv-below}
 use Rattle.card_kept.specs.Fields.{FieldsKept, numberAt}
 use Rattle.card_kept.specs.Records.{NoInstalment, Instalment}
 use Rattle.card_kept.specs.Kept.{payableGross, payableDiscount, payableNet}

@@ -9,15 +9,15 @@ use Rattle.refusal.specs.declared.Refusal.{Refusal}
 use Rattle.refusal.specs.Rules.{firstBroken, allHold}
 use Rattle.refusal.proofs.Rules.{all-hold, none-broken}
 use Rattle.text.proofs.Alphabets.{both, both-left, both-right}
+use Rattle.card_sale.specs.Cv.{cvOf}
+use Rattle.card_frame.specs.A0.{a0Of}
+use Rattle.card_frame.specs.L0.{l0Of}
+use Rattle.card_frame.specs.L9.{l9Of}
+use Rattle.card_frame.specs.A9.{a9Of}
 use Rattle.card_record.specs.declared.kind.Kind.{Kind}
 use Rattle.card_record.specs.declared.kind.Kind.the-variants.{A0, L0, Cv, L9, A9}
 use Rattle.card_record.specs.declared.reading.Reading.{Reading}
 use Rattle.card_record.specs.declared.reading.Reading.the-variants.{Unknown as unknown, Faulty as faulty, A0 as a0, L0 as l0, Cv as cv, L9 as l9, A9 as a9}
-use Rattle.card_record.specs.A0.{a0Of}
-use Rattle.card_record.specs.L0.{l0Of}
-use Rattle.card_record.specs.Cv.{cvOf}
-use Rattle.card_record.specs.L9.{l9Of}
-use Rattle.card_record.specs.A9.{a9Of}
 use Rattle.card_record.specs.Reading.{numbersOf, readingOf}
 use Rattle.card_record.proofs.Readings.{Right, says, said}
 use Rattle.card_run.specs.declared.stage.Stage.{Stage}

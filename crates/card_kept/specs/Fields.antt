@@ -10,10 +10,10 @@ use Rattle.text.specs.Part.{positions}
 use Rattle.calendar.specs.Day.{isDay}
 use Rattle.calendar.specs.Time.{isTime}
 use Rattle.pan.specs.CardField.{wellFormed}
-use Rattle.card_record.specs.declared.content.Content.{Content}
-use Rattle.card_record.specs.declared.content.Content.the-variants.{Digits, Text, Day, Time, Card, OneOf}
-use Rattle.card_record.specs.declared.field.Field.{Field}
-use Rattle.card_record.specs.Content.{inSet}
+use Rattle.card_content.specs.declared.content.Content.{Content}
+use Rattle.card_content.specs.declared.content.Content.the-variants.{Digits, Text, Day, Time, Card, OneOf}
+use Rattle.card_content.specs.declared.field.Field.{Field}
+use Rattle.card_content.specs.Content.{inSet}
 
 -- what a field's bytes keep, by its content
 abbrev pub ContentKept : Content → ℕ → List ℕ → Type 0

@@ -9,12 +9,12 @@ use lib.ListN.{length}
 use Rattle.text.specs.Literal.{ascii}
 use Rattle.text.specs.Part.{positions}
 use Rattle.lines.specs.Lines.{noLf}
-use Rattle.card_record.specs.declared.field.Field.{Field}
-use Rattle.card_record.specs.A0.{a0Table}
-use Rattle.card_record.specs.L0.{l0Table}
-use Rattle.card_record.specs.Cv.{cvTable}
-use Rattle.card_record.specs.L9.{l9Table}
-use Rattle.card_record.specs.A9.{a9Table}
+use Rattle.card_content.specs.declared.field.Field.{Field}
+use Rattle.card_sale.specs.Cv.{cvTable}
+use Rattle.card_frame.specs.A0.{a0Table}
+use Rattle.card_frame.specs.L0.{l0Table}
+use Rattle.card_frame.specs.L9.{l9Table}
+use Rattle.card_frame.specs.A9.{a9Table}
 use Rattle.card_kept.specs.Fields.{FieldsKept, numberAt}
 
 -- a record of a kind: its name, its width, its fields, and NSEQ is its number; it holds no LF, at which the file is cut

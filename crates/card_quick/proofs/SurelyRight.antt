@@ -23,16 +23,16 @@ use Rattle.calendar.specs.When.{written, onlyIf, whenRules}
 use Rattle.calendar.specs.Day.{isDay}
 use Rattle.calendar.specs.Time.{isTime}
 use Rattle.pan.specs.CardField.{wellFormed}
-use Rattle.card_record.specs.declared.content.ClosedSet.{ClosedSet}
-use Rattle.card_record.specs.declared.content.ClosedSet.the-variants.{LaunchType, Product, Capture}
-use Rattle.card_record.specs.declared.content.Content.the-variants.{Digits, Text, Card, OneOf}
-use Rattle.card_record.specs.declared.field.Field.{Field}
+use Rattle.card_content.specs.declared.content.ClosedSet.{ClosedSet}
+use Rattle.card_content.specs.declared.content.ClosedSet.the-variants.{LaunchType, Product, Capture}
+use Rattle.card_content.specs.declared.content.Content.the-variants.{Digits, Text, Card, OneOf}
+use Rattle.card_content.specs.declared.field.Field.{Field}
+use Rattle.card_content.specs.Content.{inSet, contentRules}
+use Rattle.card_content.specs.Field.{field, partOf, fieldRules, tableRules, plainNumber, numberIn, recordRules}
+use Rattle.card_sale.specs.Cv.{cvTable, cvOf}
 use Rattle.card_record.specs.declared.kind.Kind.the-variants.{Cv as kindCv}
 use Rattle.card_record.specs.declared.kind.KindFound.the-variants.{Known}
 use Rattle.card_record.specs.declared.reading.Reading.the-variants.{Cv as cv}
-use Rattle.card_record.specs.Content.{inSet, contentRules}
-use Rattle.card_record.specs.Cv.{cvTable, cvOf}
-use Rattle.card_record.specs.Field.{field, partOf, fieldRules, tableRules, plainNumber, numberIn, recordRules}
 use Rattle.card_quick.specs.Quick.{noneAbove, least, greatest, inPicture, valueIn, setsRight, daysRight, surelyRight, quickCv}
 use Rattle.card_record.specs.Kind.{kindNamed, kindOf}
 use Rattle.card_record.specs.Reading.{numbersOf, judgedAs, readFound, readingOf}

@@ -10,12 +10,12 @@ use Rattle.calendar.specs.Day.{isDay}
 use Rattle.calendar.specs.Time.{isTime}
 use Rattle.pan.specs.CardField.{wellFormed}
 use Rattle.totals.specs.declared.amounts.Amounts.{Amounts}
-use Rattle.card_record.specs.declared.content.ClosedSet.the-variants.{LaunchType, Product, Capture}
-use Rattle.card_record.specs.declared.content.Content.the-variants.{Digits, Day, Time, Card, OneOf}
-use Rattle.card_record.specs.declared.field.Field.{Field}
-use Rattle.card_record.specs.declared.cv.Cv.{Cv}
-use Rattle.card_record.specs.Content.{inSet}
-use Rattle.card_record.specs.Field.{field, partOf}
+use Rattle.card_content.specs.declared.content.ClosedSet.the-variants.{LaunchType, Product, Capture}
+use Rattle.card_content.specs.declared.content.Content.the-variants.{Digits, Day, Time, Card, OneOf}
+use Rattle.card_content.specs.declared.field.Field.{Field}
+use Rattle.card_content.specs.Content.{inSet}
+use Rattle.card_content.specs.Field.{field, partOf}
+use Rattle.card_sale.specs.declared.cv.Cv.{Cv}
 
 -- no byte of a row is above its neighbour in another, as far as both go
 unfoldable pub noneAbove : List ℕ → List ℕ → Bool

@@ -3,8 +3,8 @@
 ghost use mathlib.Core.Path.{_≡_};
 ghost use mathlib.Core.Bool.{_&&_};
 ghost use lib.ListN.{length};
-ghost use Rattle.card_record.specs.Content.{inSet};
-ghost use Rattle.card_record.specs.Field.{partOf};
+ghost use Rattle.card_content.specs.Content.{inSet};
+ghost use Rattle.card_content.specs.Field.{partOf};
 ghost use Rattle.card_record.specs.Reading.{readingOf};
 ghost use Rattle.card_quick.specs.Quick.{
   noneAbove,
@@ -16,10 +16,10 @@ ghost use Rattle.card_quick.specs.Quick.{
   amountsIn,
   quickCv,
 };
-use card_record::content::ClosedSet;
-use card_record::cv::Cv;
-use card_record::field::Field;
+use card_content::content::ClosedSet;
+use card_content::field::Field;
 use card_record::reading::Reading;
+use card_sale::cv::Cv;
 use totals::amounts::Amounts;
 
 // Whether no byte of one row is above its neighbour in the other. There is no way out before the end, so that the machine can look at many
@@ -62,7 +62,7 @@ fn in_picture(sale: &[u8]) -> bool
 fn is_in(field: Field, set: ClosedSet, edition: u64, sale: &[u8]) -> bool
     ensures { λ r. ⌜ r ≡ inSet set edition (partOf field (now (sale .entry))) ⌝ }
 {
-    card_record::content::is_in_set(set, edition, field.part(sale))
+    card_content::content::is_in_set(set, edition, field.part(sale))
 }
 
 // The value of a field of a record, if it is digits.

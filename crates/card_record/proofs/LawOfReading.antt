@@ -11,19 +11,19 @@ use Rattle.refusal.specs.Rules.{ruleAt, firstBroken}
 use Rattle.pan.specs.CardField.{wellFormed}
 use Rattle.pan.specs.Twins.{Twins}
 use Rattle.pan.proofs.Twins.{twins-formed}
+use Rattle.card_content.specs.declared.content.ClosedSet.the-variants.{LaunchType}
+use Rattle.card_content.specs.declared.content.Content.the-variants.{Digits, Text, Card, OneOf}
+use Rattle.card_content.specs.Content.{contentRules}
+use Rattle.card_content.specs.EqualOutside.{EqualOutside}
+use Rattle.card_content.specs.Field.{field, fieldRules, recordRules}
+use Rattle.card_content.proofs.FieldParts.{same-part, same-number, same-around}
+use Rattle.card_sale.specs.Cv.{cvTable, cvOf}
 use Rattle.card_record.specs.declared.card_part.CardPart.the-variants.{From}
-use Rattle.card_record.specs.declared.content.ClosedSet.the-variants.{LaunchType}
-use Rattle.card_record.specs.declared.content.Content.the-variants.{Digits, Text, Card, OneOf}
 use Rattle.card_record.specs.declared.kind.Kind.the-variants.{Cv as kindCv}
 use Rattle.card_record.specs.declared.reading.Reading.the-variants.{Cv as cv}
 use Rattle.card_record.specs.CardPart.{cardPart, cardFrom}
-use Rattle.card_record.specs.Content.{contentRules}
-use Rattle.card_record.specs.Cv.{cvTable, cvOf}
-use Rattle.card_record.specs.EqualOutside.{EqualOutside}
-use Rattle.card_record.specs.Field.{field, fieldRules, recordRules}
 use Rattle.card_record.specs.Kind.{kindNamed, kindOf}
 use Rattle.card_record.specs.Reading.{numbersOf, judgedAs, readAs, readFound, readingOf}
-use Rattle.card_record.proofs.FieldParts.{same-part, same-number, same-around}
 use Rattle.card_record.proofs.CardParts.{has-card, card-if, card-kind}
 
 module _ (r s : List ℕ) (same : EqualOutside 87 106 r s) (wide : length r ≡ 199) where

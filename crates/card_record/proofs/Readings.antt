@@ -12,6 +12,12 @@ use Rattle.refusal.specs.declared.Fault.the-variants.{Nothing, At}
 use Rattle.refusal.specs.Rules.{firstBroken, allHold, FirstBroken}
 use Rattle.refusal.proofs.Rules.{all-hold, none-broken, is-first, gives-first}
 use Rattle.text.proofs.Alphabets.{both-left}
+use Rattle.card_content.specs.Field.{tableRules, recordRules}
+use Rattle.card_sale.specs.Cv.{cvOf}
+use Rattle.card_frame.specs.A0.{a0Of}
+use Rattle.card_frame.specs.L0.{l0Of}
+use Rattle.card_frame.specs.L9.{l9Of}
+use Rattle.card_frame.specs.A9.{a9Of}
 use Rattle.card_record.specs.declared.kind.Kind.{Kind}
 use Rattle.card_record.specs.declared.kind.Kind.the-variants.{A0, L0, Cv, L9, A9}
 use Rattle.card_record.specs.declared.kind.KindFound.{KindFound}
@@ -26,13 +32,7 @@ use Rattle.card_record.specs.declared.reading.Reading.the-variants.{
   L9 as l9,
   A9 as a9,
 }
-use Rattle.card_record.specs.Field.{tableRules, recordRules}
 use Rattle.card_record.specs.Kind.{kindOf}
-use Rattle.card_record.specs.A0.{a0Of}
-use Rattle.card_record.specs.L0.{l0Of}
-use Rattle.card_record.specs.Cv.{cvOf}
-use Rattle.card_record.specs.L9.{l9Of}
-use Rattle.card_record.specs.A9.{a9Of}
 use Rattle.card_record.specs.Reading.{widthOf, tableOf, kindRules, numbersOf, judgedAs, readFound, readingOf}
 
 -- a record of a kind, whose width and fields are right

@@ -1,11 +1,3 @@
-pub mod Content
-pub mod Field
 pub mod Kind
 pub mod CardPart
-pub mod EqualOutside
-pub mod A0
-pub mod L0
-pub mod Cv
-pub mod L9
-pub mod A9
 pub mod Reading

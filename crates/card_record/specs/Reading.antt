@@ -4,11 +4,17 @@ use mathlib.Core.List.{List}
 use Rattle.refusal.specs.declared.Fault.{Fault}
 use Rattle.refusal.specs.declared.Fault.the-variants.{Nothing, At}
 use Rattle.refusal.specs.Rules.{Rule, firstBroken}
+use Rattle.card_content.specs.declared.field.Field.{Field}
+use Rattle.card_content.specs.Field.{recordRules}
+use Rattle.card_sale.specs.Cv.{cvTable, cvOf}
+use Rattle.card_frame.specs.A0.{a0Table, a0Of}
+use Rattle.card_frame.specs.L0.{l0Table, l0Of}
+use Rattle.card_frame.specs.L9.{l9Table, l9Of}
+use Rattle.card_frame.specs.A9.{a9Table, a9Of}
 use Rattle.card_record.specs.declared.kind.Kind.{Kind}
 use Rattle.card_record.specs.declared.kind.Kind.the-variants.{A0, L0, Cv, L9, A9}
 use Rattle.card_record.specs.declared.kind.KindFound.{KindFound}
 use Rattle.card_record.specs.declared.kind.KindFound.the-variants.{Known, Unknown}
-use Rattle.card_record.specs.declared.field.Field.{Field}
 use Rattle.card_record.specs.declared.reading.Reading.{Reading}
 use Rattle.card_record.specs.declared.reading.Reading.the-variants.{
   Unknown as unknown,
@@ -19,13 +25,7 @@ use Rattle.card_record.specs.declared.reading.Reading.the-variants.{
   L9 as l9,
   A9 as a9,
 }
-use Rattle.card_record.specs.Field.{recordRules}
 use Rattle.card_record.specs.Kind.{kindOf}
-use Rattle.card_record.specs.A0.{a0Table, a0Of}
-use Rattle.card_record.specs.L0.{l0Table, l0Of}
-use Rattle.card_record.specs.Cv.{cvTable, cvOf}
-use Rattle.card_record.specs.L9.{l9Table, l9Of}
-use Rattle.card_record.specs.A9.{a9Table, a9Of}
 
 -- "Each kind has a width and field table that belong to it alone"
 abbrev pub widthOf : Kind → ℕ

@@ -1,7 +1,7 @@
 // Where a record's card stands.
 ghost use mathlib.Core.Path.{_≡_};
 ghost use Rattle.card_record.specs.CardPart.{cardPart};
-use crate::cv::Cv;
+use card_sale::cv::Cv;
 
 // The place, from 0, at which the card's 19 bytes begin, or that the record has no card.
 pub enum CardPart {

@@ -1,13 +1,13 @@
 // What reading a record's bytes answers. It looks at one record alone, and keeps nothing of the card.
 ghost use mathlib.Core.Path.{_≡_};
 ghost use Rattle.card_record.specs.Reading.{judgedAs, readAs, readingOf};
-use crate::a0::A0;
-use crate::a9::A9;
-use crate::cv::Cv;
 use crate::kind::Kind;
 use crate::kind::KindFound;
-use crate::l0::L0;
-use crate::l9::L9;
+use card_frame::a0::A0;
+use card_frame::a9::A9;
+use card_frame::l0::L0;
+use card_frame::l9::L9;
+use card_sale::cv::Cv;
 use refusal::Cause;
 use refusal::Fault;
 

@@ -10,10 +10,11 @@ use Rattle.refusal.specs.declared.Fault.the-variants.{Nothing, At}
 use Rattle.refusal.specs.Rules.{Rule, firstBroken}
 use Rattle.totals.specs.Sum.{capped}
 use Rattle.totals.specs.Amounts.{noTotals, oneSale, addedTotals}
+use Rattle.card_sale.specs.declared.cv.Cv.{Cv as CvRecord}
+use Rattle.card_sale.specs.Cv.{payable, joinedRules}
+use Rattle.card_frame.specs.declared.a0.A0.{A0 as A0Record}
 use Rattle.card_record.specs.declared.kind.Kind.{Kind}
 use Rattle.card_record.specs.declared.kind.Kind.the-variants.{A0, L0, Cv, L9, A9}
-use Rattle.card_record.specs.declared.a0.A0.{A0 as A0Record}
-use Rattle.card_record.specs.declared.cv.Cv.{Cv as CvRecord}
 use Rattle.card_record.specs.declared.reading.Reading.{Reading}
 use Rattle.card_record.specs.declared.reading.Reading.the-variants.{
   Unknown as unknown,
@@ -24,7 +25,6 @@ use Rattle.card_record.specs.declared.reading.Reading.the-variants.{
   L9 as l9,
   A9 as a9,
 }
-use Rattle.card_record.specs.Cv.{payable, joinedRules}
 use Rattle.card_record.specs.Reading.{readingOf}
 use Rattle.card_run.specs.declared.stage.Stage.{Stage}
 use Rattle.card_run.specs.declared.stage.Stage.the-variants.{Start, BetweenBatches, InBatch, Ended, Closed, Refused}

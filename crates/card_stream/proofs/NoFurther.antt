@@ -15,11 +15,11 @@ use Rattle.lines.specs.Lines.{endsInCr, withoutLast}
 use Rattle.chunks.specs.Unfinished.{keptOf}
 use Rattle.chunks.proofs.Kept.{kept-ends, kept-record}
 use Rattle.chunks.proofs.Streams.{LooksNoFurther}
+use Rattle.card_content.specs.Field.{recordRules}
 use Rattle.card_record.specs.declared.kind.Kind.{Kind}
 use Rattle.card_record.specs.declared.kind.Kind.the-variants.{A0, L0, Cv, L9, A9}
 use Rattle.card_record.specs.declared.kind.KindFound.{KindFound}
 use Rattle.card_record.specs.declared.kind.KindFound.the-variants.{Known, Unknown}
-use Rattle.card_record.specs.Field.{recordRules}
 use Rattle.card_record.specs.Kind.{kindOf, kindNamed}
 use Rattle.card_record.specs.Reading.{widthOf, kindRules, readFound, readingOf, judgedAs}
 use Rattle.card_run.specs.declared.running.Running.{Running}

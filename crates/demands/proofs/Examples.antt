@@ -10,7 +10,7 @@ use Rattle.pan.specs.CardField.{wellFormed, leadingZeros}
 use Rattle.pan.specs.HiddenPlaces.{hiddenPlaces}
 use Rattle.pan.specs.Masked.{starWhere}
 use Rattle.refusal.specs.Rules.{firstBroken}
-use Rattle.card_record.specs.Cv.{joinedRules}
+use Rattle.card_sale.specs.Cv.{joinedRules}
 use Rattle.demands.specs.Examples.{asWritten, examples, allAsWritten}
 
 pub hold : allAsWritten examples ≡ true

@@ -17,10 +17,10 @@ use Rattle.pan.specs.HiddenPlaces.{hiddenPlaces}
 use Rattle.pan.specs.Masked.{starWhere}
 use Rattle.pan.proofs.Stars.{equal-stars}
 use Rattle.lines.specs.Lines.{inFront, cut, joined, endsInCr, withoutLast}
+use Rattle.card_content.specs.Content.{inSet, contentRules}
+use Rattle.card_content.specs.Field.{tableRules, recordRules, plainNumber}
+use Rattle.card_sale.specs.Cv.{joinedRules}
 use Rattle.card_record.specs.CardPart.{cardPartIn}
-use Rattle.card_record.specs.Content.{inSet, contentRules}
-use Rattle.card_record.specs.Cv.{joinedRules}
-use Rattle.card_record.specs.Field.{tableRules, recordRules, plainNumber}
 use Rattle.card_record.specs.Kind.{kindNamed}
 use Rattle.card_record.specs.Reading.{numbersOf, judgedAs, readFound}
 use Rattle.card_run.specs.Answer.{answerAt}

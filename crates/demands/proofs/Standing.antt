@@ -15,6 +15,8 @@ use Rattle.refusal.specs.Rules.{Rule, firstBroken, allHold}
 use Rattle.refusal.proofs.Rules.{all-hold}
 use Rattle.text.proofs.Alphabets.{both-left, both-right}
 use Rattle.lines.specs.Lines.{endsInCr, withoutLast}
+use Rattle.card_sale.proofs.Ranges.{cv-below}
+use Rattle.card_frame.proofs.Ranges.{a0-below, l0-below, l9-below, a9-below}
 use Rattle.card_record.specs.declared.reading.Reading.{Reading}
 use Rattle.card_record.specs.declared.reading.Reading.the-variants.{
   Unknown as unknown,
@@ -26,7 +28,6 @@ use Rattle.card_record.specs.declared.reading.Reading.the-variants.{
   A9 as a9,
 }
 use Rattle.card_record.specs.Reading.{readingOf}
-use Rattle.card_record.proofs.Ranges.{a0-below, l0-below, cv-below, l9-below, a9-below}
 use Rattle.card_record.proofs.Readings.{Says, says}
 use Rattle.card_run.specs.declared.stage.Stage.{Stage}
 use Rattle.card_run.specs.declared.stage.Stage.the-variants.{Start, BetweenBatches, InBatch, Ended, Closed, Refused}

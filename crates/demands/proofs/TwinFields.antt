@@ -10,9 +10,9 @@ use borrow.Author.Tests.{leb-true}
 use Rattle.refusal.specs.declared.Cause.the-variants.{KindUnknown, WrongWidth, FieldNotOffered}
 use Rattle.text.specs.Literal.{ascii, sameBytes}
 use Rattle.text.proofs.Alphabets.{both-left, both-right}
-use Rattle.card_record.specs.declared.content.Content.the-variants.{Text}
-use Rattle.card_record.specs.Field.{field}
-use Rattle.card_record.proofs.FieldParts.{clear}
+use Rattle.card_content.specs.declared.content.Content.the-variants.{Text}
+use Rattle.card_content.specs.Field.{field}
+use Rattle.card_content.proofs.FieldParts.{clear}
 use Rattle.card_field.specs.declared.FieldAnswer.{FieldAnswer}
 use Rattle.card_field.specs.declared.FieldAnswer.the-variants.{Offered, Refused}
 use Rattle.card_field.proofs.Below.{all-below, each-below}

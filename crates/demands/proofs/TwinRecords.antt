@@ -12,15 +12,15 @@ use Rattle.pan.specs.HiddenPlaces.{hiddenPlace}
 use Rattle.pan.specs.Twins.{Twins}
 use Rattle.pan.proofs.Tests.{by-test}
 use Rattle.pan.proofs.HiddenPlaces.{hidden-inside}
+use Rattle.card_content.specs.EqualOutside.{EqualOutside}
+use Rattle.card_content.specs.declared.field.Field.{Field}
+use Rattle.card_content.specs.Field.{partOf}
+use Rattle.card_content.proofs.FieldParts.{clear}
+use Rattle.card_content.proofs.FieldParts as parts
 use Rattle.card_record.specs.declared.card_part.CardPart.{CardPart}
 use Rattle.card_record.specs.declared.card_part.CardPart.the-variants.{From, Nowhere}
 use Rattle.card_record.specs.CardPart.{cardPart, cardFrom}
-use Rattle.card_record.specs.EqualOutside.{EqualOutside}
 use Rattle.card_record.specs.Reading.{readingOf}
-use Rattle.card_record.specs.declared.field.Field.{Field}
-use Rattle.card_record.specs.Field.{partOf}
-use Rattle.card_record.proofs.FieldParts.{clear}
-use Rattle.card_record.proofs.FieldParts as parts
 use Rattle.card_record.proofs.CardParts.{has-card, card-inside}
 use Rattle.card_record.proofs.LawOfReading.{twins-read, same-place}
 use Rattle.demands.specs.HiddenDigits.{hiddenAt, hiddenInRecord, TwinRecords}

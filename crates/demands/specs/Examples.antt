@@ -14,8 +14,8 @@ use Rattle.calendar.specs.declared.when.When.the-variants.{NotDigits, NoSuch, A
 use Rattle.calendar.specs.Day.{yearFirst}
 use Rattle.pan.specs.Masked.{masked}
 use Rattle.totals.specs.Amounts.{noAmounts}
-use Rattle.card_record.specs.declared.cv.Cv.{Cv}
-use Rattle.card_record.specs.Cv.{joinedRules}
+use Rattle.card_sale.specs.declared.cv.Cv.{Cv}
+use Rattle.card_sale.specs.Cv.{joinedRules}
 
 pub data Example : Type 0 where
   -- a card field, and what masking gives

@@ -1,10 +1,7 @@
 -- `card_field::field_answer` meets its contract: the tests that led to a return pick the case of `refusalOf`.
-use Prim.Native.Nat.{ℕ}
-use mathlib.Core.Path.{sym, _∙_, ap}
-use mathlib.Core.List.{List}
 use borrow.Author.Tests.{eq-eqb, ne-eqb, not-true, not-false}
 use Rattle.refusal.proofs.Rows.{told}
-use Rattle.text.specs.Literal.{ascii, sameBytes}
+use Rattle.card_content.proofs.Told.{compared}
 use Rattle.card_field.specs.Field.{refusalOf}
 use borrow.Author.Needs.{needs}
 use Rattle.card_field.proofs.field_answer.Statement.{statement}
@@ -21,22 +18,22 @@ equals-requires c κs = search needs
 
 returns : tie.Need-returns
 unfolding refusalOf
-returns c = rw (ap (λ (p : List ℕ). sameBytes p (ascii "CV")) (sym (c .before .before .before .part-of .ensures .holds)) ∙ told (c .before .equals .ensures) (not-true _ (c .if1 .taken)))
+returns c = rw (compared _ (c .before .equals .ensures) (c .before .before .before .part-of .ensures .holds) (not-true _ (c .if1 .taken)))
 
 returns-2 : tie.Need-returns-2
 unfolding refusalOf
-returns-2 c = rw (ap (λ (p : List ℕ). sameBytes p (ascii "CV")) (sym (c .before .before .before .before .part-of .ensures .holds)) ∙ told (c .before .before .equals .ensures) (not-false _ (c .before .if1 .left)), ne-eqb _ _ (c .if2 .taken))
+returns-2 c = rw (compared _ (c .before .before .equals .ensures) (c .before .before .before .before .part-of .ensures .holds) (not-false _ (c .before .if1 .left)), ne-eqb _ _ (c .if2 .taken))
 
 is-offered-requires : tie.Need-is-offered-requires
 is-offered-requires c κs = search needs
 
 returns-3 : tie.Need-returns-3
 unfolding refusalOf
-returns-3 c = rw (ap (λ (p : List ℕ). sameBytes p (ascii "CV")) (sym (c .before .before .before .before .before .before .part-of .ensures .holds)) ∙ told (c .before .before .before .before .equals .ensures) (not-false _ (c .before .before .before .if1 .left)), eq-eqb _ _ (c .before .before .if2 .left), told (c .before .is-offered .ensures) (c .if3 .taken))
+returns-3 c = rw (compared _ (c .before .before .before .before .equals .ensures) (c .before .before .before .before .before .before .part-of .ensures .holds) (not-false _ (c .before .before .before .if1 .left)), eq-eqb _ _ (c .before .before .if2 .left), told (c .before .is-offered .ensures) (c .if3 .taken))
 
 returns-4 : tie.Need-returns-4
 unfolding refusalOf
-returns-4 c = rw (ap (λ (p : List ℕ). sameBytes p (ascii "CV")) (sym (c .before .before .before .before .before .before .part-of .ensures .holds)) ∙ told (c .before .before .before .before .equals .ensures) (not-false _ (c .before .before .before .if1 .left)), eq-eqb _ _ (c .before .before .if2 .left), told (c .before .is-offered .ensures) (c .if3 .left))
+returns-4 c = rw (compared _ (c .before .before .before .before .equals .ensures) (c .before .before .before .before .before .before .part-of .ensures .holds) (not-false _ (c .before .before .before .if1 .left)), eq-eqb _ _ (c .before .before .if2 .left), told (c .before .is-offered .ensures) (c .if3 .left))
 
 pub field-answer-spec : {M : Type 1} → statement M
 field-answer-spec =

@@ -1,6 +1,6 @@
 -- `card_quick::is_in` meets its contract: the part is that of the field.
 use mathlib.Core.Path.{_∙_, ap}
-use Rattle.card_record.specs.Content.{inSet}
+use Rattle.card_content.specs.Content.{inSet}
 use borrow.Author.Needs.{needs}
 use Rattle.card_quick.proofs.is_in.Statement.{statement}
 use Rattle.card_quick.proofs.is_in.Tie as tie

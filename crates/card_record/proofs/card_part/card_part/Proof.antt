@@ -1,8 +1,8 @@
 -- `card_record::card_part::card_part` meets its contract: the two tests are those of the row of CV.
 use borrow.Author.Tests.{not-true, not-false, eq-eqb, ne-eqb}
 use borrow.Author.Needs.{needs}
+use Rattle.card_content.proofs.Told.{compared}
 use Rattle.card_record.specs.CardPart.{cardPartIn}
-use Rattle.card_record.proofs.Told.{compared}
 use Rattle.card_record.proofs.card_part.card_part.Statement.{statement}
 use Rattle.card_record.proofs.card_part.card_part.Tie as tie
 

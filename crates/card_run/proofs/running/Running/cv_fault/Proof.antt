@@ -5,8 +5,8 @@ use Rattle.refusal.specs.Rules.{Rule, firstBroken}
 use lib.Dec.{eqb}
 use Rattle.refusal.specs.declared.Cause.the-variants.{SequenceWrong}
 use Rattle.refusal.proofs.Rows.{next, row-by-row, one-rule}
+use Rattle.card_sale.specs.Cv.{joinedRules}
 use Rattle.card_record.specs.declared.kind.Kind.the-variants.{Cv}
-use Rattle.card_record.specs.Cv.{joinedRules}
 use Rattle.card_run.specs.Running.{placeRule, nseqRule, joinedAt, runRules}
 use borrow.Author.Needs.{needs}
 use Rattle.card_run.proofs.running.Running.cv_fault.Statement.{statement}

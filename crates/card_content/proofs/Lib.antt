@@ -1,0 +1,4 @@
+pub mod Told
+pub mod Rows
+pub mod FieldParts
+pub mod Ranges

@@ -1,0 +1,93 @@
+// What a field may hold, and the fault of a part that holds something else.
+ghost use mathlib.Core.Path.{_≡_};
+ghost use Rattle.refusal.specs.Rules.{firstBroken};
+ghost use Rattle.card_content.specs.Content.{isCurrency, inSet, contentRules};
+use refusal::Cause;
+use refusal::Fault;
+use text::alphabet::Alphabet;
+
+// The contents that the tables name.
+pub enum Content {
+    // N, also amounts, instalment numbers and NSEQ.
+    Digits,
+    // AN.
+    Text,
+    Day,
+    Time,
+    Card,
+    OneOf(ClosedSet),
+}
+
+// The fields with a closed set of values.
+pub enum ClosedSet {
+    Version,
+    Processing,
+    Currency,
+    LaunchType,
+    Product,
+    Capture,
+}
+
+// Whether a part is one of the four currencies.
+fn is_currency(part: &[u8]) -> bool
+    ensures { λ r. ⌜ r ≡ isCurrency (now (part .entry)) ⌝ }
+{
+    if text::literal::equals(part, b"RE") {
+        return true;
+    }
+    if text::literal::equals(part, b"DO") {
+        return true;
+    }
+    if text::literal::equals(part, b"PE") {
+        return true;
+    }
+    text::literal::equals(part, b"  ")
+}
+
+// Whether a part is a value of a closed set. Only captures go by the edition.
+pub fn is_in_set(set: ClosedSet, edition: u64, part: &[u8]) -> bool
+    ensures { λ r. ⌜ r ≡ inSet set edition (now (part .entry)) ⌝ }
+{
+    match set {
+        ClosedSet::Version => text::literal::equals(part, b"001.7d"),
+        ClosedSet::Processing => text::literal::is_one_of(part, b"NR"),
+        ClosedSet::Currency => is_currency(part),
+        ClosedSet::LaunchType => text::literal::is_one_of(part, b"012"),
+        ClosedSet::Product => text::literal::is_one_of(part, b"CDV"),
+        ClosedSet::Capture => {
+            if edition == 2 {
+                text::literal::is_one_of(part, b"123456789")
+            } else {
+                text::literal::is_one_of(part, b"12345689")
+            }
+        }
+    }
+}
+
+// The fault of a part that should hold this content.
+pub fn fault_of(content: Content, edition: u64, column: u64, part: &[u8]) -> Fault
+    ensures { λ r. ⌜ r ≡ firstBroken (contentRules content edition column (now (part .entry))) ⌝ }
+{
+    match content {
+        Content::Digits => refusal::rule(
+            Cause::ByteNotAllowed,
+            column,
+            text::alphabet::holds_only(Alphabet::Digits, part),
+        ),
+        Content::Text => refusal::rule(
+            Cause::ByteNotAllowed,
+            column,
+            text::alphabet::holds_only(Alphabet::CardText, part),
+        ),
+        Content::Card => refusal::rule(Cause::ByteNotAllowed, column, pan::well_formed(part)),
+        Content::Day => calendar::day::year_first(part).fault(column),
+        Content::Time => calendar::time::time_of(part).fault(column),
+        Content::OneOf(set) => {
+            refusal::rule(
+                Cause::ValueNotAllowed,
+                column,
+                is_in_set(set, edition, part),
+            )
+        }
+    }
+}

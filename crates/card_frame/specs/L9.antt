@@ -1,0 +1,14 @@
+-- L9, section 2.8 of document 003: 28 bytes (docs/READINGS.md).
+use Prim.Native.Nat.{ℕ}
+use mathlib.Core.List.{List, [], _∷_}
+use Rattle.card_content.specs.declared.content.Content.the-variants.{Digits}
+use Rattle.card_content.specs.declared.field.Field.{Field}
+use Rattle.card_content.specs.Field.{field, numberIn}
+use Rattle.card_frame.specs.declared.l9.L9.{L9}
+
+-- count of the batch's sales 3-8, sum of their payable gross 9-22, NSEQ 23-28
+abbrev pub l9Table : List Field
+l9Table = field 3 8 Digits ∷ field 9 22 Digits ∷ field 23 28 Digits ∷ []
+
+abbrev pub l9Of : List ℕ → L9
+l9Of r = record { count = numberIn (field 3 8 Digits) r; gross = numberIn (field 9 22 Digits) r; nseq = numberIn (field 23 28 Digits) r }

@@ -1,0 +1,4 @@
+pub mod A0
+pub mod L0
+pub mod L9
+pub mod A9
