@@ -2,6 +2,7 @@
 ghost use mathlib.Core.Path.{_≡_};
 ghost use mathlib.Core.List.{[], _∷_};
 ghost use Rattle.refusal.specs.Rules.{firstBroken};
+ghost use Rattle.totals.specs.Sum.{capped};
 ghost use Rattle.payroll_file.specs.Running.{
   opened,
   nextNumber,
@@ -54,6 +55,13 @@ pub struct Running {
 const LAST_BATCH: u64 = 9998;
 
 const TOO_LARGE: u64 = 10_000_000_000_000_000_000;
+
+// What was paid, with one amount more. It stays at the top of 64 bits, where it equals no trailer and is too large.
+fn paid(sum: u64, amount: u64) -> u64
+    ensures { λ r. ⌜ r ≡ capped sum amount ⌝ }
+{
+    totals::sum::added(sum, amount)
+}
 
 impl Running {
     // Nothing has come.
@@ -258,11 +266,11 @@ impl Running {
         let batch = Batch {
             records: totals::sum::added(open.records, 1),
             details: totals::sum::added(open.details, 1),
-            sum: totals::sum::added(open.sum, amount),
+            sum: paid(open.sum, amount),
         };
         let mut next = self.counted(stage);
         next.payments = totals::sum::added(self.payments, payments);
-        next.amount = totals::sum::added(self.amount, amount);
+        next.amount = paid(self.amount, amount);
         next.batch = batch;
         next
     }

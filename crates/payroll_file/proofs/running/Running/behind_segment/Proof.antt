@@ -9,26 +9,26 @@ added-requires c κs = search needs
 added-requires-2 : tie.Need-added-requires-2
 added-requires-2 c κs = search needs
 
-added-requires-3 : tie.Need-added-requires-3
-added-requires-3 c κs = search needs
+paid-requires : tie.Need-paid-requires
+paid-requires c κs = search needs
 
 counted-requires : tie.Need-counted-requires
 counted-requires c κs = search needs
 
-added-requires-4 : tie.Need-added-requires-4
-added-requires-4 c κs = search needs
+added-requires-3 : tie.Need-added-requires-3
+added-requires-3 c κs = search needs
 
-added-requires-5 : tie.Need-added-requires-5
-added-requires-5 c κs = search needs
+paid-requires-2 : tie.Need-paid-requires-2
+paid-requires-2 c κs = search needs
 
 returns : tie.Need-returns
 returns c =
     let e = c .before .before .counted .ensures in
-    let p = c .before .added4 .ensures in
-    let t = c .added5 .ensures in
+    let p = c .before .added3 .ensures in
+    let t = c .paid2 .ensures in
     let r = c .before .before .before .before .before .added .ensures in
     let d = c .before .before .before .before .added2 .ensures in
-    let s = c .before .before .before .added3 .ensures in
+    let s = c .before .before .before .paid .ensures in
     λ i. record {
       stage = e i .stage;
       «is_return» = e i .«is_return»;
@@ -45,8 +45,8 @@ behind-segment-spec =
     (tie.spec
     added-requires
     added-requires-2
-    added-requires-3
+    paid-requires
     counted-requires
-    added-requires-4
-    added-requires-5
+    added-requires-3
+    paid-requires-2
     returns)
