@@ -6,7 +6,7 @@ fn print_card(title: &[u8], edition: u64, path: &[u8]) {
     print::text(title);
     print::text(b": ");
     let fd = os::open_read(path);
-    outcome::print_card(programs::card::check(edition, fd));
+    outcome::print_card(card_program::check::check(edition, fd));
     libc::close(fd);
 }
 
@@ -14,7 +14,7 @@ fn print_payroll(title: &[u8], path: &[u8]) {
     print::text(title);
     print::text(b": ");
     let fd = os::open_read(path);
-    outcome::print_payroll(programs::payroll::check(fd));
+    outcome::print_payroll(payroll_program::check::check(fd));
     libc::close(fd);
 }
 

@@ -9,7 +9,7 @@ fn mask(title: &[u8], edition: u64, file: &[u8], out: &[u8]) {
     print::text(b"mask, ");
     print::text(title);
     print::text(b": ");
-    outcome::print_card(programs::mask::mask(edition, file, out));
+    outcome::print_card(mask_program::mask::mask(edition, file, out));
 }
 
 // Where there is no OUT before.

@@ -1,10 +1,10 @@
 // Outcomes as lines: an answer as the other cases print it, or the mistake in words.
+use card_program::outcome::Outcome;
 use cases::answer;
 use cases::print;
 use payroll_file::answer::PayrollAnswer;
-use programs::outcome::Mistake;
-use programs::outcome::Outcome;
-use programs::payroll::PayrollOutcome;
+use payroll_program::outcome::PayrollOutcome;
+use program::mistake::Mistake;
 
 pub fn print_mistake(mistake: Mistake) {
     match mistake {

@@ -6,7 +6,7 @@ use cases::answer;
 use cases::print;
 use day_sheet::reader::SheetRead;
 use day_sheet::sheet::Sheet;
-use programs::sheet::SheetOutcome;
+use sheet_program::read::SheetOutcome;
 
 // A blank, and a number.
 fn print_next(n: u64) {
@@ -41,7 +41,7 @@ fn read(title: &[u8], file: &[u8]) {
     print::text(b"sheet read, ");
     print::text(title);
     print::text(b": ");
-    match programs::sheet::read(file) {
+    match sheet_program::read::read(file) {
         SheetOutcome::Read(read) => print_read(read),
         SheetOutcome::Mistake(mistake) => outcome::print_mistake(mistake),
     }
@@ -53,7 +53,7 @@ fn write(title: &[u8], edition: u64, file: &[u8], out: &[u8]) {
     print::text(b"sheet, ");
     print::text(title);
     print::text(b": ");
-    outcome::print_card(programs::sheet::write(edition, file, out));
+    outcome::print_card(sheet_program::write::write(edition, file, out));
 }
 
 fn print_case(title: &[u8], edition: u64, file: &[u8]) {

@@ -1,4 +1,2 @@
 pub mod Answers
-pub mod Decimals
-pub mod Folders
 pub mod Parts

@@ -1,4 +1,2 @@
-// Files by name and by descriptor: reading one, and replacing one as a whole.
-pub mod beside;
-pub mod draft;
+// Reading files by descriptor.
 pub mod reading;

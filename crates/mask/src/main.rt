@@ -1,11 +1,11 @@
 // mask EDITION FILE OUT: writes the masked copy of an accepted card file to OUT, and prints the file's verdict.
+use card_program::verdict;
 use edition::Edition;
 use libc::PATH_MAX;
-use programs::argument;
-use programs::mask;
-use programs::mistake;
-use programs::outcome::Mistake;
-use programs::verdict;
+use mask_program::mask;
+use program::argument;
+use program::mistake;
+use program::mistake::Mistake;
 
 // Masks the file that the second argument names into the one that the third does.
 fn mask_named(edition: u64) {
@@ -21,7 +21,8 @@ fn main() {
         mistake::tell_usage(b"mask EDITION FILE OUT");
         return;
     }
-    match argument::edition_at(1) {
+    let mut word = [0u8; argument::LONGEST];
+    match argument::edition_at(1, &mut word) {
         Edition::NoNumber => mistake::tell(Mistake::EditionNoNumber),
         Edition::Of(edition) => mask_named(edition),
     }

@@ -1,13 +1,13 @@
 // payroll < FILE: checks a payroll file, and prints its verdict.
 use libc::STDIN_FILENO;
-use programs::mistake;
-use programs::payroll;
-use programs::verdict;
+use payroll_program::check;
+use payroll_program::verdict;
+use program::mistake;
 
 fn main() {
     if os::arg_count() != 1 {
         mistake::tell_usage(b"payroll < FILE");
         return;
     }
-    verdict::print_payroll(payroll::check(STDIN_FILENO));
+    verdict::print_outcome(check::check(STDIN_FILENO));
 }

@@ -2,11 +2,12 @@
 // sheet FILE: prints the numbers of a day sheet.
 use edition::Edition;
 use libc::PATH_MAX;
-use programs::argument;
-use programs::mistake;
-use programs::outcome::Mistake;
-use programs::sheet;
-use programs::verdict;
+use program::argument;
+use program::mistake;
+use program::mistake::Mistake;
+use sheet_program::read;
+use sheet_program::verdict;
+use sheet_program::write;
 
 // Writes the sheet of the file that the second argument names into the one that the third does.
 fn write_named(edition: u64) {
@@ -14,14 +15,18 @@ fn write_named(edition: u64) {
     let mut out = [0u8; PATH_MAX];
     let file_size = os::arg(2, &mut file);
     let out_size = os::arg(3, &mut out);
-    verdict::print_outcome(sheet::write(edition, &file[..file_size], &out[..out_size]));
+    card_program::verdict::print_outcome(write::write(
+        edition,
+        &file[..file_size],
+        &out[..out_size],
+    ));
 }
 
 // Prints the numbers of the sheet that the first argument names.
 fn print_named() {
     let mut file = [0u8; PATH_MAX];
     let size = os::arg(1, &mut file);
-    verdict::print_sheet(sheet::read(&file[..size]));
+    verdict::print_outcome(read::read(&file[..size]));
 }
 
 fn main() {
@@ -34,7 +39,8 @@ fn main() {
         mistake::tell_usage(b"sheet EDITION FILE OUT, or sheet FILE");
         return;
     }
-    match argument::edition_at(1) {
+    let mut word = [0u8; argument::LONGEST];
+    match argument::edition_at(1, &mut word) {
         Edition::NoNumber => mistake::tell(Mistake::EditionNoNumber),
         Edition::Of(edition) => write_named(edition),
     }

@@ -30,9 +30,6 @@ is-digit c = at-each Digits _ (c .before .before .pre) _ (c .loop-test .taken)
 loop-holds : tie.Need-loop-holds Inv-loop μ-loop
 loop-holds c = (search needs, search needs, refl)
 
-shared-slice-read-digit : tie.Need-shared-slice-read-digit Inv-loop μ-loop
-shared-slice-read-digit c = search needs
-
 sub-digit : tie.Need-sub-digit Inv-loop μ-loop
 sub-digit c = digit-low _ (is-digit (c .before))
 
@@ -47,17 +44,8 @@ returns c =
     let l = c .before .before .before .loop in
     over (l .value) _ (l .i) (c .before .before .loop-test .taken) (omega (arith, digit-high _ (is-digit (c .before .before)))) (l .inv .2)
 
-mul-value : tie.Need-mul-value Inv-loop μ-loop
-mul-value c = search needs
-
 add-value : tie.Need-add-value Inv-loop μ-loop
 add-value c = omega (arith, digit-high _ (is-digit (c .before .before)))
-
-add-i : tie.Need-add-i Inv-loop μ-loop
-add-i c = search needs
-
-loop-less : tie.Need-loop-less Inv-loop μ-loop
-loop-less c = search needs
 
 loop-again : tie.Need-loop-again Inv-loop μ-loop
 loop-again c =
@@ -76,14 +64,14 @@ capped-value-spec =
     Inv-loop
     μ-loop
     loop-holds
-    shared-slice-read-digit
+    (λ c. search needs)
     sub-digit
     cast-digit
     sub-if1
     returns
-    mul-value
+    (λ c. search needs)
     add-value
-    add-i
-    loop-less
+    (λ c. search needs)
+    (λ c. search needs)
     loop-again
     returns-2)

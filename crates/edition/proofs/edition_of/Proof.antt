@@ -10,9 +10,6 @@ use Rattle.edition.proofs.edition_of.Tie as tie
 returns : tie.Need-returns
 returns c = rw (le-ltb 0 (length (c .before .before .args .word .now)) (omega arith))
 
-holds-only-requires : tie.Need-holds-only-requires
-holds-only-requires c κs = search needs
-
 returns-2 : tie.Need-returns-2
 returns-2 c =
     let b = c .before .before .before in
@@ -32,4 +29,4 @@ returns-3 c =
 
 pub edition-of-spec : {M : Type 1} → statement M
 edition-of-spec =
-    tie.close (tie.spec returns holds-only-requires returns-2 capped-value-requires returns-3)
+    tie.close (tie.spec returns (λ c κs. search needs) returns-2 capped-value-requires returns-3)

@@ -1,0 +1,39 @@
+// A card file, read from a descriptor in chunks.
+ghost use Rattle.card_program.specs.Checked.{Checked};
+use crate::outcome;
+use crate::outcome::Outcome;
+use card_stream::Stream;
+use files::reading;
+use files::reading::Got;
+use program::mistake::Mistake;
+
+// How much is read at a time.
+const CHUNK: usize = 65536;
+
+// Reads until the end, an error, or a refusal, which no further byte can change. A file of more reads than are counted counts as unreadable.
+fn check_by(edition: u64, fd: i32, buffer: &mut [u8]) -> Outcome
+    ensures { λ r. ⌜ Checked edition r ⌝ }
+{
+    let mut stream = Stream::open(edition);
+    let mut reads = reading::MOST_READS;
+    while reads > 0 {
+        match reading::read_some(fd, buffer) {
+            Got::Failed => return Outcome::Mistake(Mistake::CannotRead),
+            Got::End => return Outcome::Answer(stream.end().answer()),
+            Got::Bytes(size) => stream = stream.take(&buffer[..size]),
+        }
+        if outcome::is_decided(stream.answer()) {
+            return Outcome::Answer(stream.end().answer());
+        }
+        reads -= 1;
+    }
+    Outcome::Mistake(Mistake::CannotRead)
+}
+
+// Checks the card file that a descriptor reads.
+pub fn check(edition: u64, fd: i32) -> Outcome
+    ensures { λ r. ⌜ Checked edition r ⌝ }
+{
+    let mut buffer = [0u8; CHUNK];
+    check_by(edition, fd, &mut buffer)
+}

@@ -1,0 +1,3 @@
+pub mod Finished
+pub mod Moves
+pub mod Waiting

@@ -1,0 +1,61 @@
+-- `mask_program::copy::write_lines` meets its contract: the finished lines lie within the bytes, and the tail is kept below the buffer's length.
+use Prim.Native.Nat.{_-_, _≤_}
+use mathlib.Core.Path.{_≡_}
+use native.Mathlib.Omega.{arith}
+use lib.ListN.{length, drop, length-take}
+use Rattle.mask_program.specs.Masking.{keptSize}
+use Rattle.mask_program.proofs.Waiting.{leaves-room, waits-in-front}
+use Rattle.mask_program.proofs.Finished.{finished-in-front}
+use borrow.Author.Needs.{needs}
+use Rattle.mask_program.proofs.copy.write_lines.Statement.{statement}
+use Rattle.mask_program.proofs.copy.write_lines.Tie as tie
+
+-- the finished lines lie within the bytes
+finished : (c : tie.After-mask-lines) → c .mask-lines .result ≤ c .before .before .before .args .end
+finished c =
+    finished-in-front (c .before .before .before .args .buffer .now) (c .before .before .before .args .end) _ (c .mask-lines .ensures .counts)
+
+part-write-end : tie.Need-part-write-end
+part-write-end c = omega (arith, finished (c .before .before .before))
+
+move-to-front-requires : tie.Need-move-to-front-requires
+move-to-front-requires c κs = (finished (c .before .before .before .before .before .before .before), search needs)
+
+sub-tail-kept : tie.Need-sub-tail-kept
+sub-tail-kept c = finished (c .before .before .before .before .before .before .before .before .before .before)
+
+returns-2 : tie.Need-returns-2
+returns-2 c =
+    let b = c .before .before .before .before .before .before .before .before .before .before .before in
+    let a = b .before .before .before .args in
+    let v = c .before .before .before .move-to-front in
+    let same : length (v .last .0) ≡ length (a .buffer .now) =
+    omega (arith, v .ensures .same, c .before .before .before .before .before .before .before .before .before .before .buffer .given) in
+    let l : length (b .mask-lines .last .0) ≡ a .end =
+    omega (arith, c .before .before .before .before .before .before .before .before .before .before .buffer .given, length-take (a .end - 0) (drop 0 (a .buffer .now)), c .before .before .before .before .before .before .before .before .before .before .before .before .before .before .pre .1) in
+    let k : c .tail-kept .result ≡ keptSize (a .end - b .mask-lines .result) (length (a .buffer .now)) =
+    rw same at (c .tail-kept .ensures) in (
+      rw (k, same) (leaves-room (a .end - b .mask-lines .result) (length (a .buffer .now)) (c .before .before .before .before .before .before .before .before .before .before .before .before .before .before .pre .0)),
+      waits-in-front (a .buffer .now) (b .mask-lines .last .0) _ (v .last .0) (a .end) (b .mask-lines .result) _ _ (b .mask-lines .ensures .counts)
+          (b .mask-lines .ensures .leaves) l (finished b) (v .ensures .front) k,
+    )
+
+pub write-lines-spec : {M : Type 1} → statement M
+write-lines-spec =
+    tie.close
+    (tie.spec
+    (λ c. search needs)
+    (λ c. search needs)
+    (λ c. search needs)
+    (λ c κs. search needs)
+    (λ c. search needs)
+    (λ c. search needs)
+    part-write-end
+    (λ c κs. search needs)
+    (λ c. search needs)
+    (λ c. search needs)
+    move-to-front-requires
+    sub-tail-kept
+    (λ c κs. search needs)
+    (λ c. search needs)
+    returns-2)

@@ -1,0 +1,32 @@
+-- What is promised of a buffer whose lines were masked and written: the unfinished one waits at its start.
+use Prim.Native.Nat.{ℕ, _-_, _<_}
+use mathlib.Core.Path.{_≡_}
+use mathlib.Core.List.{List, []}
+use mathlib.Core.Bool.{cond}
+use lib.ListN.{length, take, drop}
+use lib.Dec.{ltb}
+use Rattle.card_mask.specs.Masked.{maskedFile, finishedIn}
+use Rattle.mask_program.specs.declared.copy.Written.{Written}
+use Rattle.mask_program.specs.declared.copy.Written.the-variants.{Tail, Failed}
+
+-- the bytes from one place up to another were moved to the start
+pub record MovedToFront (before : List ℕ) (from end : ℕ) (after : List ℕ) : Type 0 where
+  pub front : take (end - from) after ≡ take (end - from) (drop from before)
+  pub same : length after ≡ length before
+
+-- how many bytes are kept of an unfinished line: none where it fills the buffer
+abbrev pub keptSize : ℕ → ℕ → ℕ
+keptSize size room = cond (ltb size room) size 0
+
+-- what is kept of it
+abbrev pub kept : ℕ → List ℕ → List ℕ
+kept room line = cond (ltb (length line) room) line []
+
+-- what waits behind the finished lines of some bytes, once they are masked
+abbrev pub waiting : List ℕ → List ℕ
+waiting bytes = drop (finishedIn bytes) (maskedFile bytes)
+
+-- behind the first bytes of a buffer: what waits is kept at its start, and leaves room for the next read
+abbrev pub leaves : List ℕ → ℕ → List ℕ → Written → Type 0
+leaves before end after (Tail n) = (n < length after) × (take n after ≡ kept (length before) (waiting (take end before)))
+leaves before end after Failed = Unit {0}

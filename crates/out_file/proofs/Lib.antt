@@ -1,0 +1,3 @@
+pub mod Decimals
+pub mod Folders
+pub mod Texts

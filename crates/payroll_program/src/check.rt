@@ -1,0 +1,39 @@
+// A payroll file, read from a descriptor in chunks.
+ghost use Rattle.payroll_program.specs.Checked.{Checked};
+use crate::outcome;
+use crate::outcome::PayrollOutcome;
+use files::reading;
+use files::reading::Got;
+use payroll_stream::Stream;
+use program::mistake::Mistake;
+
+// How much is read at a time.
+const CHUNK: usize = 65536;
+
+// Reads until the end, an error, or a refusal, which no further byte can change. A file of more reads than are counted counts as unreadable.
+fn check_by(fd: i32, buffer: &mut [u8]) -> PayrollOutcome
+    ensures { λ r. ⌜ Checked r ⌝ }
+{
+    let mut stream = Stream::open();
+    let mut reads = reading::MOST_READS;
+    while reads > 0 {
+        match reading::read_some(fd, buffer) {
+            Got::Failed => return PayrollOutcome::Mistake(Mistake::CannotRead),
+            Got::End => return outcome::outcome_of(stream.end().answer()),
+            Got::Bytes(size) => stream = stream.take(&buffer[..size]),
+        }
+        if outcome::is_decided(stream.answer()) {
+            return outcome::outcome_of(stream.end().answer());
+        }
+        reads -= 1;
+    }
+    PayrollOutcome::Mistake(Mistake::CannotRead)
+}
+
+// Checks the payroll file that a descriptor reads.
+pub fn check(fd: i32) -> PayrollOutcome
+    ensures { λ r. ⌜ Checked r ⌝ }
+{
+    let mut buffer = [0u8; CHUNK];
+    check_by(fd, &mut buffer)
+}

@@ -1,4 +1,0 @@
-pub mod Finished
-pub mod Moves
-pub mod Taken
-pub mod Waiting
