@@ -70,6 +70,7 @@ BAD_EDITION = b"R 1 0 0"
 NO_FILE = b"FILE cannot be opened"
 NO_READ = b"FILE cannot be read"
 NO_WRITE = b"OUT cannot be written"
+OUT_NO_FILE = b"OUT is no regular file"
 
 NO_OUT = b"no OUT\n"
 BEFORE = b"from before\n"
@@ -107,7 +108,7 @@ CASES = [
     (b"mask, no such file", NO_FILE, BEFORE),
     (b"mask, FILE is a folder", NO_READ, BEFORE),
     (b"mask, no folder for OUT", NO_WRITE, NO_OUT),
-    (b"mask, OUT is a folder", NO_WRITE, b"OUT is a folder\n"),
+    (b"mask, OUT is a folder", OUT_NO_FILE, b"OUT is a folder\n"),
     (b"sheet, a day", DAY, SHEET),
     (b"sheet, a day over an OUT", DAY, SHEET),
     (b"sheet, a day, to be read", DAY, b""),
@@ -118,6 +119,7 @@ CASES = [
     (b"sheet, no such file", NO_FILE, BEFORE),
     (b"sheet, FILE is a folder", NO_READ, BEFORE),
     (b"sheet, no folder for OUT", NO_WRITE, NO_OUT),
+    (b"sheet, OUT is a folder", OUT_NO_FILE, b"OUT is a folder\n"),
     (b"sheet read, a day", b"A 2 20231115 42 3 4 65990 1650 64340", b""),
     (b"sheet read, 51 bytes", b"R 15 0 0", b""),
     (b"sheet read, 53 bytes", b"R 15 0 0", b""),

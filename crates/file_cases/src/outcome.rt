@@ -11,7 +11,9 @@ pub fn print_mistake(mistake: Mistake) {
         Mistake::EditionNoNumber => print::text(b"the edition is no number"),
         Mistake::CannotOpen => print::text(b"FILE cannot be opened"),
         Mistake::CannotRead => print::text(b"FILE cannot be read"),
+        Mistake::OutNoFile => print::text(b"OUT is no regular file"),
         Mistake::CannotWrite => print::text(b"OUT cannot be written"),
+        Mistake::CannotSync => print::text(b"OUT is written, and its folder not synced"),
     }
 }
 

@@ -82,6 +82,14 @@ fn print_nowhere() {
     folder::leave(Shown::Hex);
 }
 
+// Where OUT is a folder.
+fn print_folder() {
+    folder::enter();
+    os::mkdir(b"work/out");
+    write(b"OUT is a folder", 2, b"day.card", b"work/out");
+    folder::leave(Shown::Lines);
+}
+
 pub fn print_cases() {
     print_case(b"a day", 2, b"day.card");
     print_over(b"a day over an OUT", 2, b"day.card", Shown::Hex);
@@ -92,6 +100,7 @@ pub fn print_cases() {
     print_over(b"no such file", 2, b"none", Shown::Lines);
     print_over(b"FILE is a folder", 2, b"work", Shown::Lines);
     print_nowhere();
+    print_folder();
     read(b"a day", b"day.sheet");
     read(b"51 bytes", b"short.sheet");
     read(b"53 bytes", b"longer.sheet");

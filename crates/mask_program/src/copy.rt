@@ -32,21 +32,22 @@ fn write_lines(draft: Draft, buffer: &mut [u8], end: usize) -> Written
     Written::Tail(buffer::tail_kept(end - lines, buffer.len()))
 }
 
-// Checks the file, and writes its lines masked as long as it is not refused.
-pub(crate) fn copy_by(edition: u64, fd: i32, draft: Draft, buffer: &mut [u8]) -> Outcome
-    requires { ⌜ 0 < length (now buffer) ⌝ }
+// Checks a file of which the first bytes are in the buffer, and writes its lines masked as long as it is not refused.
+pub(crate) fn copy_by(
+    edition: u64,
+    fd: i32,
+    draft: Draft,
+    buffer: &mut [u8],
+    first: usize,
+) -> Outcome
+    requires { ⌜ (0 < length (now buffer)) × (first ≤ length (now buffer)) ⌝ }
     ensures { λ r. ⌜ Checked edition r ⌝ }
 {
     let mut stream = Stream::open(edition);
     let mut tail = 0;
+    let mut end = first;
     let mut reads = reading::MOST_READS;
     while reads > 0 {
-        let size = match reading::read_some(fd, &mut buffer[tail..]) {
-            Got::Failed => return Outcome::Mistake(Mistake::CannotRead),
-            Got::End => return Outcome::Answer(stream.end().answer()),
-            Got::Bytes(size) => size,
-        };
-        let end = tail + size;
         stream = stream.take(&buffer[tail..end]);
         if outcome::is_decided(stream.answer()) {
             return Outcome::Answer(stream.end().answer());
@@ -54,6 +55,11 @@ pub(crate) fn copy_by(edition: u64, fd: i32, draft: Draft, buffer: &mut [u8]) ->
         let Written::Tail(left) = write_lines(draft, buffer, end) else {
             return Outcome::Mistake(Mistake::CannotWrite);
         };
+        match reading::read_some(fd, &mut buffer[left..]) {
+            Got::Failed => return Outcome::Mistake(Mistake::CannotRead),
+            Got::End => return Outcome::Answer(stream.end().answer()),
+            Got::Bytes(size) => end = left + size,
+        }
         tail = left;
         reads -= 1;
     }

@@ -1,3 +1,2 @@
-pub mod Decimals
-pub mod Folders
+pub mod Slashes
 pub mod Texts

@@ -7,7 +7,6 @@ use lib.ListN.{length, take}
 use lib.Dec.{eqb, ltb}
 use Rattle.text.specs.Literal.{ascii}
 use Rattle.io.specs.Counts.{Counts}
-use Rattle.io.specs.Digits.{digits, Fewest}
 
 -- how many bytes stand up to the last '/' and with it; 0 where there is none
 unfoldable pub folderSize : List ℕ → ℕ
@@ -24,9 +23,7 @@ pub record Put (text : List ℕ) (before : List ℕ) (at end : ℕ) (after : Lis
   pub content : take end after ≡ take at before ++ text
   pub same : length after ≡ length before
 
--- the first bytes of a buffer are the folder, ".lossivurn-" and the number, with no zero in front
-pub record Named (path : List ℕ) (number size : ℕ) (name : List ℕ) : Type 0 where
+-- the first bytes of a buffer are the folder, ".lossivurn-" and the mark
+pub record Named (path mark : List ℕ) (size : ℕ) (name : List ℕ) : Type 0 where
   pub counts : Counts size name
-  pub count : ℕ
-  pub fewest : Fewest 10 1 number count
-  pub content : take size name ≡ (folderOf path ++ ascii ".lossivurn-") ++ digits 10 count number
+  pub content : take size name ≡ (folderOf path ++ ascii ".lossivurn-") ++ mark

@@ -1,41 +1,34 @@
 // A file that is written under a temporary name, and takes its own name only when all of it is there. What the system calls do, no contract can say.
 use crate::beside;
+use crate::folder;
 
-// A file in the making: its descriptor, and the number in its temporary name.
+// A file in the making: its descriptor, which is negative where it could not be made, and the mark in its temporary name.
 pub struct Draft {
     pub fd: i32,
-    pub number: u64,
+    pub mark: [u8; beside::MARK],
 }
 
-pub enum Begun {
-    Draft(Draft),
+// What comes of a file that was to take its path.
+pub enum Kept {
+    Kept,
+    // It has its path, and its folder could not be synced.
+    Unsynced,
+    // It is gone, and what was at its path is still there.
     Failed,
 }
 
-// How many temporary names are tried, where others are in the way.
-const MOST_TRIES: u64 = 1000;
-
-// Makes the file of this temporary name, where there is none yet, and answers a descriptor, or -1.
-fn create(path: &[u8], number: u64) -> i32 {
-    let mut name = [0u8; beside::ROOM];
-    let size = beside::put_name(path, number, &mut name);
-    os::create(&name[..size])
+// Makes a new file of this temporary name, whose mark is filled in by chance, and which is open to its owner alone.
+fn create(name: &mut [u8]) -> Draft {
+    let fd = os::create_temp(name);
+    let mark = beside::mark_of(name);
+    Draft { fd, mark }
 }
 
 // Begins the file that is to have this path.
-pub fn begin(path: &[u8]) -> Begun {
-    let mut number = 0;
-    while number < MOST_TRIES {
-        let fd = create(path, number);
-        if fd >= 0 {
-            return Begun::Draft(Draft { fd, number });
-        }
-        if os::errno() != libc::EEXIST {
-            return Begun::Failed;
-        }
-        number += 1;
-    }
-    Begun::Failed
+pub fn begin(path: &[u8]) -> Draft {
+    let mut name = [0u8; beside::ROOM];
+    let size = beside::put_name(path, *b"XXXXXX", &mut name);
+    create(&mut name[0..size])
 }
 
 impl Draft {
@@ -54,24 +47,29 @@ impl Draft {
     // Gives the closed file its path, in the place of what was there, and answers whether that went well.
     fn rename(self, path: &[u8]) -> bool {
         let mut name = [0u8; beside::ROOM];
-        let size = beside::put_name(path, self.number, &mut name);
+        let mark = self.mark;
+        let size = beside::put_name(path, mark, &mut name);
         os::rename(&name[..size], path) == 0
     }
 
     // Removes the closed file.
     fn remove(self, path: &[u8]) {
         let mut name = [0u8; beside::ROOM];
-        let size = beside::put_name(path, self.number, &mut name);
+        let mark = self.mark;
+        let size = beside::put_name(path, mark, &mut name);
         os::unlink(&name[..size]);
     }
 
-    // Ends the file, which takes its path. Where that fails the answer is false, the file is gone, and what was at its path is still there.
-    pub fn keep(self, path: &[u8]) -> bool {
+    // Ends the file, which takes its path, and sees that its folder has reached the disk too.
+    pub fn keep(self, path: &[u8]) -> Kept {
         if self.close() && self.rename(path) {
-            return true;
+            if folder::sync(path) {
+                return Kept::Kept;
+            }
+            return Kept::Unsynced;
         }
         self.remove(path);
-        false
+        Kept::Failed
     }
 
     // Ends the file, of which nothing stays.

@@ -1,3 +1,5 @@
 // The file that a program writes: made under a temporary name, and given its own only when it is whole.
 mod beside;
 pub mod draft;
+mod folder;
+pub mod place;

@@ -6,7 +6,11 @@ pub enum Mistake {
     EditionNoNumber,
     CannotOpen,
     CannotRead,
+    // Another thing than a file stands at OUT.
+    OutNoFile,
     CannotWrite,
+    // OUT is written all the same.
+    CannotSync,
 }
 
 fn say(text: &[u8]) {
@@ -32,8 +36,16 @@ pub fn tell(mistake: Mistake) {
         Mistake::CannotRead => {
             os::fail(b"the file cannot be read to its end, so give a file that can, and no folder")
         }
+        Mistake::OutNoFile => {
+            say(
+                b"OUT is there and no regular file: give a file's name, or one that is not there.\n",
+            )
+        }
         Mistake::CannotWrite => os::fail(
             b"OUT cannot be written, so give a file's name in a folder where you may write and there is room",
+        ),
+        Mistake::CannotSync => os::fail(
+            b"OUT is written, but its folder cannot be synced, so see that it outlasts a power cut",
         ),
     }
 }

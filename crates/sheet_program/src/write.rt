@@ -1,4 +1,5 @@
 // The day sheet of a card file, from file to file.
+ghost use Prim.Native.Nat.{ℕ};
 ghost use Rattle.card_program.specs.Checked.{Checked};
 use card_program::check;
 use card_program::outcome::Outcome;
@@ -8,29 +9,42 @@ use day_sheet::layout;
 use day_sheet::writer;
 use day_sheet::writer::SheetWritten;
 use out_file::draft;
-use out_file::draft::Begun;
 use out_file::draft::Draft;
+use out_file::draft::Kept;
+use out_file::place;
 use program::mistake::Mistake;
 
-// Writes a sheet and gives it its name, and answers whether that went well.
-fn fill(draft: Draft, sheet: &[u8], out: &[u8]) -> bool {
+// Writes a sheet and gives it its name.
+fn fill(draft: Draft, sheet: &[u8], out: &[u8]) -> Kept {
     if draft.write(sheet) {
         return draft.keep(out);
     }
     draft.discard(out);
-    false
+    Kept::Failed
 }
 
-// Writes a file's numbers as a sheet into the file of this name, and answers whether that went well.
-fn save(edition: u64, numbers: Accepted, out: &[u8]) -> bool {
+// Writes a file's numbers as a sheet into the file of this name.
+fn save(edition: u64, numbers: Accepted, out: &[u8]) -> Kept {
     let mut sheet = [0u8; layout::WIDTH];
     let SheetWritten::Written = writer::write(card_sheet::sheet_from(edition, numbers), &mut sheet)
     else {
-        return false;
+        return Kept::Failed;
     };
-    match draft::begin(out) {
-        Begun::Failed => false,
-        Begun::Draft(draft) => fill(draft, &sheet, out),
+    let draft = draft::begin(out);
+    if draft.fd < 0 {
+        return Kept::Failed;
+    }
+    fill(draft, &sheet, out)
+}
+
+// What comes of an answer whose sheet was to be kept.
+fn outcome_of(answer: CardAnswer, kept: Kept) -> Outcome
+    ensures { λ r. ⌜ ((edition : ℕ) → Checked edition (Outcome.Answer answer) → Checked edition r) ⌝ }
+{
+    match kept {
+        Kept::Kept => Outcome::Answer(answer),
+        Kept::Unsynced => Outcome::Mistake(Mistake::CannotSync),
+        Kept::Failed => Outcome::Mistake(Mistake::CannotWrite),
     }
 }
 
@@ -41,13 +55,7 @@ fn save_answer(edition: u64, answer: CardAnswer, out: &[u8]) -> Outcome
     match answer {
         CardAnswer::GoingOn => Outcome::Answer(answer),
         CardAnswer::Refused(_) => Outcome::Answer(answer),
-        CardAnswer::Accepted(numbers) => {
-            if save(edition, numbers, out) {
-                Outcome::Answer(answer)
-            } else {
-                Outcome::Mistake(Mistake::CannotWrite)
-            }
-        }
+        CardAnswer::Accepted(numbers) => outcome_of(answer, save(edition, numbers, out)),
     }
 }
 
@@ -64,8 +72,8 @@ fn check_file(edition: u64, file: &[u8]) -> Outcome
     outcome
 }
 
-// Writes the day sheet of an accepted file. Of any other there is no sheet, and what was at `out` is still there.
-pub fn write(edition: u64, file: &[u8], out: &[u8]) -> Outcome
+// Checks the card file of a name, and saves its sheet.
+fn write_file(edition: u64, file: &[u8], out: &[u8]) -> Outcome
     ensures { λ r. ⌜ Checked edition r ⌝ }
 {
     let outcome = check_file(edition, file);
@@ -73,4 +81,14 @@ pub fn write(edition: u64, file: &[u8], out: &[u8]) -> Outcome
         Outcome::Mistake(_) => outcome,
         Outcome::Answer(answer) => save_answer(edition, answer, out),
     }
+}
+
+// Writes the day sheet of an accepted file. Of any other there is no sheet, and what was at `out` is still there.
+pub fn write(edition: u64, file: &[u8], out: &[u8]) -> Outcome
+    ensures { λ r. ⌜ Checked edition r ⌝ }
+{
+    if place::is_free(out) {
+        return write_file(edition, file, out);
+    }
+    Outcome::Mistake(Mistake::OutNoFile)
 }

@@ -1,4 +1,4 @@
--- `out_file::beside::folder_size` meets its contract. The invariant: the bytes that are left in front have the folder of the whole path.
+-- `out_file::folder::folder_size` meets its contract. The invariant: the bytes that are left in front have the folder of the whole path.
 use Prim.Native.Nat.{ℕ, _-_, _≤_}
 use mathlib.Core.Path.{_≡_, ap, sym, _∙_}
 use mathlib.Core.List.{List}
@@ -7,9 +7,9 @@ use borrow.Author.Needs.{needs}
 use lib.ListN.{length, take}
 use lib.Seq.{take-length}
 use Rattle.out_file.specs.Beside.{folderSize}
-use Rattle.out_file.proofs.Folders.{slash-at, other-at}
-use Rattle.out_file.proofs.beside.folder_size.Statement.{statement}
-use Rattle.out_file.proofs.beside.folder_size.Tie as tie
+use Rattle.out_file.proofs.Slashes.{slash-at, other-at}
+use Rattle.out_file.proofs.folder.folder_size.Statement.{statement}
+use Rattle.out_file.proofs.folder.folder_size.Tie as tie
 
 -- no byte is left: no folder
 none : (s : List ℕ) (n : ℕ) → n ≡ 0 → folderSize (take n s) ≡ folderSize s → 0 ≡ folderSize s
@@ -25,22 +25,10 @@ abbrev μ-loop : tie.MeasureT-loop
 loop-holds : tie.Need-loop-holds Inv-loop μ-loop
 loop-holds c = (search needs, ap folderSize (take-length _))
 
-sub-if1 : tie.Need-sub-if1 Inv-loop μ-loop
-sub-if1 c = search needs
-
-shared-slice-read-if1 : tie.Need-shared-slice-read-if1 Inv-loop μ-loop
-shared-slice-read-if1 c = search needs
-
 returns : tie.Need-returns Inv-loop μ-loop
 returns c =
     let l = c .before .before .before .loop in
     sym (slash-at _ (l .size) (c .before .before .loop-test .taken) (l .inv .0) (c .if1 .taken)) ∙ (l .inv .1)
-
-sub-size : tie.Need-sub-size Inv-loop μ-loop
-sub-size c = search needs
-
-loop-less : tie.Need-loop-less Inv-loop μ-loop
-loop-less c = search needs
 
 loop-again : tie.Need-loop-again Inv-loop μ-loop
 loop-again c =
@@ -59,10 +47,10 @@ folder-size-spec =
     Inv-loop
     μ-loop
     loop-holds
-    sub-if1
-    shared-slice-read-if1
+    (λ c. search needs)
+    (λ c. search needs)
     returns
-    sub-size
-    loop-less
+    (λ c. search needs)
+    (λ c. search needs)
     loop-again
     returns-2)

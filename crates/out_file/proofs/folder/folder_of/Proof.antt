@@ -1,4 +1,4 @@
--- `out_file::beside::folder` meets its contract: a folder is no longer than its path.
+-- `out_file::folder::folder_of` meets its contract: a folder is no longer than its path.
 use Prim.Native.Nat.{ℕ, min}
 use mathlib.Core.Path.{_≡_, ap}
 use mathlib.Core.List.{List}
@@ -6,13 +6,10 @@ use native.Mathlib.Omega.{arith}
 use borrow.Author.Needs.{needs}
 use lib.ListN.{take}
 use Rattle.out_file.specs.Beside.{folderSize}
-use Rattle.out_file.proofs.Folders.{folder-within}
+use Rattle.out_file.proofs.Slashes.{folder-within}
 use Rattle.files.proofs.Parts.{front-length}
-use Rattle.out_file.proofs.beside.folder.Statement.{statement}
-use Rattle.out_file.proofs.beside.folder.Tie as tie
-
-folder-size-requires : tie.Need-folder-size-requires
-folder-size-requires c κs = search needs
+use Rattle.out_file.proofs.folder.folder_of.Statement.{statement}
+use Rattle.out_file.proofs.folder.folder_of.Tie as tie
 
 slice-aggregate-result : tie.Need-slice-aggregate-result
 slice-aggregate-result c =
@@ -39,11 +36,11 @@ returns-2 c =
     let k = c .before .before .folder-size .result in
     least (folderSize p) 4096 k p (omega arith)
 
-pub folder-spec : {M : Type 1} → statement M
-folder-spec =
+pub folder-of-spec : {M : Type 1} → statement M
+folder-of-spec =
     tie.close
     (tie.spec
-    folder-size-requires
+    (λ c κs. search needs)
     slice-aggregate-result
     returns
     slice-aggregate-result-2
