@@ -1,32 +1,21 @@
--- Laws of numbers and hashes: what one more byte does to them, and how large a number of few bytes can be.
-use Prim.Native.Nat.{ℕ, _+_, _*_, _%_, _^_, _≤_, _<_}
+-- Laws of numbers and hashes: what one more byte does to them.
+use Prim.Native.Nat.{ℕ, _+_, _*_, _%_, _≤_, _<_}
 use mathlib.Core.Path.{_≡_}
 use mathlib.Core.List.{List}
-use native.Mathlib.Omega.{arith}
 use native.Mathlib.Numerals.{add-one}
-use native.Mathlib.Nat.{pow-suc, pow-le-pow-right}
 use lib.ListN.{length, getD, drop, drop-of-length-le}
 use lib.Seq.{drop-cons}
-use lib.Dec.{lit<}
 use Rattle.cases.specs.Cursor.{highFirst}
 use Rattle.cases.specs.Hash.{hashFrom}
 
 -- one more byte of a number, and none left
-pub byte-more : (n : ℕ) (s : List ℕ) (i : ℕ) → i < length s → highFirst n (drop i s) ≡ highFirst (n * 256 + getD s i 0) (drop (i + 1) s)
+pub byte-more : (n : ℕ) (s : List ℕ) (i : ℕ) → i < length s → highFirst n (drop i s) ≡ highFirst (n % 72057594037927936 * 256 + getD s i 0) (drop (i + 1) s)
 unfolding highFirst
 byte-more n s i h = rw (drop-cons s i 0 h, add-one)
 
 pub bytes-end : (n : ℕ) (s : List ℕ) (i : ℕ) → length s ≤ i → highFirst n (drop i s) ≡ n
 unfolding highFirst
 bytes-end n s i h = rw (drop-of-length-le s h)
-
--- a number below 256^i stays below 256^(i + 1) with one more byte
-pub below-more : (n i b : ℕ) → n < 256 ^ i → b < 256 → n * 256 + b < 256 ^ (i + 1)
-below-more n i b h l = rw (add-one, pow-suc) (omega arith)
-
--- eight bytes leave room for each step of reading them
-pub room : (n i : ℕ) → i < 8 → n < 256 ^ i → n < 256 ^ 7
-room n i h b = omega (arith, pow-le-pow-right {n = 256} (lit< tt) {i = i} {j = 7} (omega arith))
 
 -- one more byte of a hash, and none left
 pub hash-more : (h : ℕ) (s : List ℕ) (i : ℕ) → i < length s →

@@ -1,8 +1,6 @@
 -- Answers as rows of numbers, by which two of them are compared.
 use Prim.Native.Nat.{ℕ}
 use mathlib.Core.List.{List, [], _∷_}
-use mathlib.Core.Bool.{Bool, true, false, _&&_}
-use lib.Dec.{eqb}
 use Rattle.card_run.specs.Answer.{Row, rowOf}
 use Rattle.card_run.specs.declared.answer.CardAnswer.{CardAnswer}
 
@@ -13,10 +11,3 @@ numbersOf r =
 
 abbrev pub cardNumbers : CardAnswer → List ℕ
 cardNumbers answer = numbersOf (rowOf answer)
-
--- whether two rows are the same
-unfoldable pub sameNumbers : List ℕ → List ℕ → Bool
-sameNumbers [] [] = true
-sameNumbers [] (b ∷ t) = false
-sameNumbers (a ∷ s) [] = false
-sameNumbers (a ∷ s) (b ∷ t) = eqb a b && sameNumbers s t

@@ -3,6 +3,7 @@ use crate::print;
 use card_run::answer::Accepted;
 use card_run::answer::CardAnswer;
 use refusal::Refusal;
+use totals::amounts::Totals;
 
 // The digits of a date, AAAAMMDD.
 const DATE_DIGITS: usize = 8;
@@ -12,14 +13,22 @@ const MOVEMENT_DIGITS: usize = 6;
 
 // A blank, and a number.
 pub fn next_number(n: u64) {
-    print::text(b" ");
+    print::byte(b' ');
     print::number(n);
+}
+
+// A blank and a date, a blank and a movement, each with all its digits.
+pub fn next_day(date: u64, movement: u64) {
+    print::byte(b' ');
+    print::padded(date, DATE_DIGITS);
+    print::byte(b' ');
+    print::padded(movement, MOVEMENT_DIGITS);
 }
 
 // `R number record column`
 pub fn print_refusal(refusal: Refusal) {
     let cause = refusal.cause;
-    print::text(b"R");
+    print::byte(b'R');
     next_number(cause.number());
     next_number(refusal.record);
     next_number(refusal.column);
@@ -27,14 +36,16 @@ pub fn print_refusal(refusal: Refusal) {
 
 // `A date movement records batches sales gross discount net`
 pub fn print_accepted(accepted: Accepted) {
-    let totals = accepted.totals;
-    let amounts = totals.amounts;
-    print::text(b"A ");
-    print::padded(accepted.date, DATE_DIGITS);
-    print::text(b" ");
-    print::padded(accepted.movement, MOVEMENT_DIGITS);
+    print::byte(b'A');
+    next_day(accepted.date, accepted.movement);
     next_number(accepted.records);
     next_number(accepted.batches);
+    next_totals(accepted.totals);
+}
+
+// A blank before each: the sales, and what they come to.
+pub fn next_totals(totals: Totals) {
+    let amounts = totals.amounts;
     next_number(totals.sales);
     next_number(amounts.gross);
     next_number(amounts.discount);
@@ -44,8 +55,14 @@ pub fn print_accepted(accepted: Accepted) {
 // The answer of a card file; `-` where there is none yet.
 pub fn print_card_answer(answer: CardAnswer) {
     match answer {
-        CardAnswer::GoingOn => print::text(b"-"),
+        CardAnswer::GoingOn => print::byte(b'-'),
         CardAnswer::Accepted(accepted) => print_accepted(accepted),
         CardAnswer::Refused(refusal) => print_refusal(refusal),
     }
+}
+
+// ` n cuts alike`, and the line's end.
+pub fn next_cuts(n: u64) {
+    next_number(n);
+    print::text(b" cuts alike\n");
 }

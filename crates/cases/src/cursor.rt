@@ -1,103 +1,77 @@
-// Reading cases out of a buffer, at a cursor. Numbers are unsigned, high byte first.
+// Reading cases out of a buffer, at a place: how many bytes stand before it. Numbers are unsigned, high byte first.
 ghost use mathlib.Core.Path.{_≡_};
-ghost use Prim.Native.Nat.{_≤_};
-ghost use lib.ListN.{length};
-ghost use Rattle.cases.specs.Cursor.{atStart, hasMore, highFirst, numberAt, partAt, placeBehind};
+ghost use Rattle.totals.specs.Sum.{capped};
+ghost use Rattle.cases.specs.Cursor.{bytesAt, highFirst, NumberAt};
+use crate::print;
+use text::part::part_of;
+use totals::sum::added;
 
-// A place in a buffer of cases.
-pub struct Cursor {
-    pub at: usize,
-}
-
-// A number that stands at a cursor, and the place behind it.
-pub enum Number {
-    Of(u64, Cursor),
-    Missing,
-}
-
-// The place behind a part.
-pub enum Place {
-    At(Cursor),
-    Missing,
+// A number that stands in a buffer, and the place behind it, which lies behind the buffer where the number is cut short.
+pub struct Number {
+    pub value: u64,
+    pub behind: usize,
 }
 
 // How many bytes an edition takes.
-pub const EDITION_BYTES: usize = 1;
+pub const EDITION_BYTES: u64 = 1;
 
 // How many bytes a length takes.
-pub const LENGTH_BYTES: usize = 4;
+pub const LENGTH_BYTES: u64 = 4;
 
-// The widest number that is read: eight bytes fill a u64.
-const MOST_BYTES: usize = 8;
+// 2^56: what is left of a number that one more byte has room behind.
+const ROOM_FOR_A_BYTE: u64 = 72_057_594_037_927_936;
 
-// The number of a row of bytes, of which there are few enough.
+// The number of a row of bytes; of more than eight, that of the last eight.
 fn high_first(bytes: &[u8]) -> u64
-    requires { ⌜ length (now bytes) ≤ 8 ⌝ }
     ensures { λ r. ⌜ r ≡ highFirst 0 (now (bytes .entry)) ⌝ }
 {
     let mut number: u64 = 0;
     let mut i = 0;
     while i < bytes.len() {
-        number = number * 256 + bytes[i] as u64;
+        number = number % ROOM_FOR_A_BYTE * 256 + bytes[i] as u64;
         i += 1;
     }
     number
 }
 
-impl Cursor {
-    // Before the first case.
-    pub fn start() -> Cursor
-        ensures { λ r. ⌜ r ≡ atStart ⌝ }
-    {
-        Cursor { at: 0 }
-    }
+// So many bytes from a place on, as far as there are any.
+fn bytes_at(cases: &[u8], at: usize, size: u64) -> &[u8]
+    ensures { λ r. ⌜ now r ≡ bytesAt (now (cases .entry)) at size ⌝ }
+{
+    let first = added(at as u64, 1) as usize;
+    let last = added(at as u64, size) as usize;
+    part_of(first, last, cases)
+}
 
-    // Whether so many bytes more stand here.
-    pub fn has(self, cases: &[u8], size: u64) -> bool
-        ensures { λ r. ⌜ r ≡ hasMore (now (cases .entry)) (self .at) size ⌝ }
-    {
-        let at = self.at;
-        if cases.len() < at {
-            return false;
-        }
-        size as usize <= cases.len() - at
+// The number of so many bytes that stands at a place.
+pub fn number_at(cases: &[u8], at: usize, size: u64) -> Number
+    ensures { λ r. ⌜ NumberAt (now (cases .entry)) at size r ⌝ }
+{
+    Number {
+        value: high_first(bytes_at(cases, at, size)),
+        behind: added(at as u64, size) as usize,
     }
+}
 
-    // The number of so many bytes that stands here; one of more than eight is never there.
-    pub fn number(self, cases: &[u8], size: usize) -> Number
-        ensures { λ r. ⌜ r ≡ numberAt (now (cases .entry)) (self .at) size ⌝ }
+impl Number {
+    // The part whose length this is: it stands behind it.
+    pub fn part(self, cases: &[u8]) -> &[u8]
+        ensures { λ r. ⌜ now r ≡ bytesAt (now (cases .entry)) (self .behind) (self .value) ⌝ }
     {
-        if MOST_BYTES < size {
-            return Number::Missing;
-        }
-        if !self.has(cases, size as u64) {
-            return Number::Missing;
-        }
-        let at = self.at;
-        let end = at + size;
-        Number::Of(high_first(&cases[at..end]), Cursor { at: end })
-    }
-
-    // The part of so many bytes that stands here; none of them where there are fewer.
-    pub fn part(self, cases: &[u8], size: u64) -> &[u8]
-        ensures { λ r. ⌜ now r ≡ partAt (now (cases .entry)) (self .at) size ⌝ }
-    {
-        if !self.has(cases, size) {
-            return &cases[..0];
-        }
-        let at = self.at;
-        let end = at + size as usize;
-        &cases[at..end]
+        bytes_at(cases, self.behind, self.value)
     }
 
     // The place behind that part.
-    pub fn behind(self, cases: &[u8], size: u64) -> Place
-        ensures { λ r. ⌜ r ≡ placeBehind (now (cases .entry)) (self .at) size ⌝ }
+    pub fn behind_part(self) -> usize
+        ensures { λ r. ⌜ r ≡ capped (self .behind) (self .value) ⌝ }
     {
-        if !self.has(cases, size) {
-            return Place::Missing;
-        }
-        let end = self.at + size as usize;
-        Place::At(Cursor { at: end })
+        added(self.behind as u64, self.value) as usize
+    }
+}
+
+// Says so where the last case does not end where the buffer does.
+pub fn print_end(cases: &[u8], at: usize) {
+    if at != cases.len() {
+        print::text(b"a case is cut short\n");
     }
 }

@@ -1,6 +1,8 @@
 // Where a file is cut into chunks: at places that look random, and are the same each time.
 ghost use mathlib.Core.Path.{_≡_};
 ghost use Rattle.cases.specs.Cuts.{nextOf, sizeOf, cutBehind};
+ghost use Rattle.cases.specs.Hash.{hashFrom};
+use crate::hash;
 
 pub struct Cuts {
     pub state: u64,
@@ -22,6 +24,15 @@ const FIRST_SHIFT: u64 = 65536;
 const SECOND_SHIFT: u64 = 16777216;
 
 impl Cuts {
+    // The cuts of a file: its own hash picks them.
+    pub fn of(file: &[u8]) -> Cuts
+        ensures { λ r. ⌜ r .state ≡ hashFrom 0 (now (file .entry)) ⌝ }
+    {
+        Cuts {
+            state: hash::hash(file),
+        }
+    }
+
     // The next state.
     pub fn next(self) -> Cuts
         ensures { λ r. ⌜ r ≡ nextOf self ⌝ }

@@ -7,3 +7,4 @@ pub mod hash;
 pub mod output;
 pub mod print;
 pub mod row;
+pub mod source;

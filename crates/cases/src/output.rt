@@ -2,6 +2,7 @@
 ghost use mathlib.Core.Path.{_≡_};
 ghost use lib.ListN.{length};
 ghost use Rattle.cases.specs.Output.{pattern};
+use crate::print;
 
 // The byte that an output begins with, and how much each byte is more than the one before it.
 const FIRST: u8 = 3;
@@ -19,4 +20,9 @@ pub fn fill(out: &mut [u8])
         byte = std::num::wrapping_add_u8(byte, STEP);
         i += 1;
     }
+}
+
+// Says that a case asks for a longer output than there is room for.
+pub fn print_too_long() {
+    print::text(b"an output is too long\n");
 }

@@ -1,6 +1,7 @@
 // Answers as rows of numbers, by which two of them are compared.
 ghost use mathlib.Core.Path.{_≡_};
-ghost use Rattle.cases.specs.Row.{cardNumbers, sameNumbers};
+ghost use Rattle.cases.specs.Row.{cardNumbers};
+ghost use Rattle.text.specs.Literal.{sameBytes};
 use card_run::answer::Accepted;
 use card_run::answer::CardAnswer;
 use refusal::Refusal;
@@ -61,7 +62,7 @@ pub fn card_row(answer: CardAnswer) -> [u64; CARD_NUMBERS]
 
 // Whether two rows are the same.
 pub fn same(a: &[u64], b: &[u64]) -> bool
-    ensures { λ r. ⌜ r ≡ sameNumbers (now (a .entry)) (now (b .entry)) ⌝ }
+    ensures { λ r. ⌜ r ≡ sameBytes (now (a .entry)) (now (b .entry)) ⌝ }
 {
     if a.len() != b.len() {
         return false;

@@ -1,103 +1,92 @@
 // Card files given record by record: prints the answers after each call, a line for each case, first of the outside cases and then of our own.
+ghost use mathlib.Core.Path.{_≡_};
+ghost use Prim.Native.Nat.{_+_, _≤_, min};
+ghost use lib.ListN.{length};
+ghost use Rattle.feed_cases.specs.Call.{calledOf};
 use card_run::running::Running;
 use cases::answer;
-use cases::cursor::Cursor;
+use cases::cursor;
 use cases::cursor::EDITION_BYTES;
 use cases::cursor::LENGTH_BYTES;
 use cases::cursor::Number;
-use cases::cursor::Place;
 use cases::file;
 use cases::print;
+use cases::source::Source;
+use cases::source::Way;
 
 // The length that stands for a close.
 const CLOSE: u64 = 4294967295;
 
-// What a call leaves: the state, and the place behind the call.
-enum Called {
-    Behind(Running, Cursor),
-    Missing,
-}
-
-// Makes the call that stands here.
-fn call(state: Running, calls: &[u8], from: Cursor) -> Called {
-    let Number::Of(length, at_record) = from.number(calls, LENGTH_BYTES) else {
-        return Called::Missing;
-    };
+// The state after a call: a close, or a record of this length.
+fn called(state: Running, length: u64, bytes: &[u8]) -> Running
+    ensures { λ r. ⌜ r ≡ calledOf length state (now (bytes .entry)) ⌝ }
+{
     if length == CLOSE {
-        return Called::Behind(state.close(), at_record);
+        return state.close();
     }
-    let Place::At(next) = at_record.behind(calls, length) else {
-        return Called::Missing;
-    };
-    let record = at_record.part(calls, length);
-    Called::Behind(state.feed(record), next)
+    state.feed(bytes)
 }
 
-// A `;` before every answer but the first.
-fn print_joint(from: Cursor) {
-    if from.at > 0 {
-        print::text(b";");
+// The place behind a call whose length this is.
+fn behind_call(length: Number) -> usize
+    ensures { λ r. ⌜ length .behind ≤ r ⌝ }
+{
+    if length.value == CLOSE {
+        return length.behind;
     }
+    length.behind_part()
 }
 
-// Prints the answer after each call. Each call takes a byte at least, so there are no more turns than bytes.
+// Prints the answer after a call, and a `;` before every answer but the first.
+fn print_answer(state: Running, at: usize) {
+    if at > 0 {
+        print::byte(b';');
+    }
+    answer::print_card_answer(state.answer());
+}
+
+// Prints the answer after each call.
 fn print_calls(edition: u64, calls: &[u8]) {
     let mut state = Running::open(edition);
-    let mut from = Cursor::start();
-    let mut turns = calls.len();
-    while turns > 0 && from.has(calls, 1) {
-        let Called::Behind(next, behind) = call(state, calls, from) else {
-            print::text(b"a call is cut short");
-            return;
-        };
-        print_joint(from);
-        answer::print_card_answer(next.answer());
-        state = next;
-        from = behind;
-        turns -= 1;
+    let mut at = 0;
+    while at < calls.len() {
+        let length = cursor::number_at(calls, at, LENGTH_BYTES);
+        state = called(state, length.value, length.part(calls));
+        print_answer(state, at);
+        at = behind_call(length);
     }
+    cursor::print_end(calls, at);
 }
 
-// Prints the answers of the case that stands here, and answers the place behind it.
-fn print_case(cases: &[u8], from: Cursor) -> Place {
-    let Number::Of(edition, at_length) = from.number(cases, EDITION_BYTES) else {
-        return Place::Missing;
-    };
-    let Number::Of(length, at_calls) = at_length.number(cases, LENGTH_BYTES) else {
-        return Place::Missing;
-    };
-    let Place::At(next) = at_calls.behind(cases, length) else {
-        return Place::Missing;
-    };
-    print_calls(edition, at_calls.part(cases, length));
-    print::text(b"\n");
-    Place::At(next)
+// Prints the line of the case at a place, and answers the place behind it.
+fn print_case(cases: &[u8], at: usize) -> usize
+    ensures { λ r. ⌜ min (at + 1) (length (now (cases .entry))) ≤ r ⌝ }
+{
+    let edition = cursor::number_at(cases, at, EDITION_BYTES);
+    let length = cursor::number_at(cases, edition.behind, LENGTH_BYTES);
+    print_calls(edition.value, length.part(cases));
+    print::byte(b'\n');
+    length.behind_part()
 }
 
-// Prints the answers of all cases. Each case takes a byte at least, so there are no more turns than bytes.
+// Prints the lines of all cases.
 fn print_cases(cases: &[u8]) {
-    let mut from = Cursor::start();
-    let mut turns = cases.len();
-    while turns > 0 && from.has(cases, 1) {
-        let Place::At(next) = print_case(cases, from) else {
-            print::text(b"a case is cut short\n");
-            return;
-        };
-        from = next;
-        turns -= 1;
+    let mut at = 0;
+    while at < cases.len() {
+        at = print_case(cases, at);
     }
+    cursor::print_end(cases, at);
 }
 
-// Prints the answers of a file of cases.
-fn print_file(path: &[u8]) {
+// Prints the lines of a file of cases.
+fn print_all(source: Source) {
     let mut buffer = file::room();
-    let size = file::load(path, &mut buffer);
+    source.print_title(Way::Whole);
+    let size = source.load(&mut buffer);
     print_cases(&buffer[..size]);
 }
 
 fn main() {
-    print::text(b"outside\n");
-    print_file(b"outside.cases");
-    print::text(b"own\n");
-    print_file(b"own.cases");
+    print_all(Source::Outside);
+    print_all(Source::Own);
 }

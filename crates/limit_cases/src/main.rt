@@ -1,4 +1,6 @@
 // What no file of cases can say: editions of more than a byte, and states far into a file. Prints an answer a line.
+ghost use mathlib.Core.Path.{_≡_};
+ghost use Rattle.limit_cases.specs.Behind.{behindOf};
 use card_run::answer::CardAnswer;
 use card_run::running::Running;
 use card_run::stage::Stage;
@@ -7,30 +9,45 @@ use cases::file;
 use cases::print;
 use totals::amounts::Totals;
 
+// `: ` and an answer, behind what it is of.
+fn print_answer(of: CardAnswer) {
+    print::byte(b':');
+    print::byte(b' ');
+    answer::print_card_answer(of);
+    print::byte(b'\n');
+}
+
 // An answer and what it is of.
 fn print_line(name: &[u8], of: CardAnswer) {
     print::text(name);
-    print::text(b": ");
-    answer::print_card_answer(of);
-    print::text(b"\n");
+    print_answer(of);
+}
+
+// A file under an edition that is told by its digits.
+fn print_edition(edition: u64, file: &[u8]) {
+    print::text(b"edition ");
+    print::number(edition);
+    print_answer(card_file::check(edition, file));
 }
 
 // One file under editions small and large.
 fn print_editions(file: &[u8]) {
-    print_line(b"edition 0", card_file::check(0, file));
-    print_line(b"edition 1", card_file::check(1, file));
-    print_line(b"edition 2", card_file::check(2, file));
-    print_line(b"edition 3", card_file::check(3, file));
-    print_line(b"edition 258", card_file::check(258, file));
-    print_line(b"edition 2^32 + 2", card_file::check(4294967298, file));
+    print_edition(0, file);
+    print_edition(1, file);
+    print_edition(2, file);
+    print_edition(3, file);
+    print_edition(258, file);
+    print_line(b"edition 2^32 + 2", card_file::check(4_294_967_298, file));
     print_line(
         b"edition 2^64 - 1",
-        card_file::check(18446744073709551615, file),
+        card_file::check(18_446_744_073_709_551_615, file),
     );
 }
 
 // A state between batches that has taken so many records, without a sale.
-fn behind(records: u64) -> Running {
+fn behind(records: u64) -> Running
+    ensures { λ r. ⌜ r ≡ behindOf records ⌝ }
+{
     Running {
         stage: Stage::BetweenBatches,
         edition: 2,
@@ -43,14 +60,22 @@ fn behind(records: u64) -> Running {
     }
 }
 
-// The last record that NSEQ can number, the millionth, and one behind as many as a state can count.
-fn print_records() {
-    let last = behind(999998).feed(b"L020231115RE999999");
+// The last record that NSEQ can number, and the millionth, which stays refused.
+fn print_last_records() {
+    let last = behind(999_998).feed(b"L020231115RE999999");
     print_line(b"record 999999", last.answer());
+    print_millionth(last);
+}
+
+fn print_millionth(last: Running) {
     let millionth = last.feed(b"L900000000000000000000000000");
     print_line(b"record 1000000", millionth.answer());
     print_line(b"and for ever", millionth.close().answer());
-    let beyond = behind(18446744073709551615).feed(b"L020231115RE000000");
+}
+
+// A record behind as many as a state can count.
+fn print_beyond() {
+    let beyond = behind(18_446_744_073_709_551_615).feed(b"L020231115RE000000");
     print_line(b"no number above 2^64 - 1", beyond.answer());
 }
 
@@ -58,5 +83,6 @@ fn main() {
     let mut buffer = file::room();
     let size = file::load(b"day.card", &mut buffer);
     print_editions(&buffer[..size]);
-    print_records();
+    print_last_records();
+    print_beyond();
 }

@@ -1,164 +1,101 @@
-// The masked copy of a card file that comes in chunks, as a program makes it: what waits for its line end stands in front of a window, each chunk is put
-// behind it, the records that are finished then are masked and go out, and the rest moves to the front.
+// The masked copy of a card file that comes in chunks: the bytes so far stand in front of the copy, and each time the records that are finished are masked
+// where they stand.
 ghost use mathlib.Core.Path.{_≡_};
-ghost use Prim.Native.Nat.{_+_, _≤_};
+ghost use Prim.Native.Nat.{_≤_};
 ghost use lib.ListN.{length};
+ghost use Rattle.card_mask.specs.Masked.{maskedFile};
+ghost use Rattle.mask_cases.specs.Copying.{MasksBetween, copiedInto};
 use card_run::answer::CardAnswer;
-use card_stream::Stream;
 use cases::cuts::Cuts;
-use cases::hash;
+use cases::hash::hash;
 use cases::output;
 
-// Room for the longest file that is masked in chunks.
-const ROOM: usize = 4096;
-
-// What has come so far: the verdict's state, how many bytes wait in the window, and how many stand in the copy.
-struct Copying {
-    stream: Stream,
-    waiting: usize,
-    done: usize,
-}
-
-// Masks the records that are finished in front of the window, and answers how many bytes they take.
-fn mask_front(window: &mut [u8], filled: usize) -> usize
-    requires { ⌜ filled ≤ length (now window) ⌝ }
-    ensures { λ r. ⌜ r ≤ filled ⌝ }
+// Masks the records that are finished between two places, and answers where the last of them ends.
+fn mask_between(copy: &mut [u8], done: usize, end: usize) -> usize
+    requires { ⌜ done ≤ end ⌝ }
+    requires { ⌜ end ≤ length (now copy) ⌝ }
+    ensures { λ r. ⌜ MasksBetween (now (copy .entry)) done end r (now (copy .exit)) ⌝ }
 {
-    card_mask::mask_lines(&mut window[0..filled])
+    done + card_mask::mask_lines(&mut copy[done..end])
 }
 
-// Moves a part of the window to its front.
-fn move_to_front(window: &mut [u8], from: usize, end: usize)
-    requires { ⌜ (from ≤ end) × (end ≤ length (now window)) ⌝ }
+// Masks a copy that is cut at places that look random. There are as many chunks as bytes, and those behind the last byte are empty.
+fn mask_in_chunks(copy: &mut [u8])
+    ensures { λ _. ⌜ now (copy .exit) ≡ maskedFile (now (copy .entry)) ⌝ }
 {
-    let mut place = 0;
-    let mut i = from;
-    while i < end {
-        window[place] = window[i];
-        place += 1;
-        i += 1;
+    let mut cuts = Cuts::of(copy);
+    let end = copy.len();
+    let mut done = 0;
+    let mut at = 0;
+    for _ in 0..end {
+        cuts = cuts.next();
+        at = cuts.behind(at, end);
+        done = mask_between(copy, done, at);
+    }
+    mask_between(copy, done, end);
+}
+
+// Masks a copy that is cut in two at a place.
+fn mask_in_two(copy: &mut [u8], place: usize)
+    requires { ⌜ place ≤ length (now copy) ⌝ }
+    ensures { λ _. ⌜ now (copy .exit) ≡ maskedFile (now (copy .entry)) ⌝ }
+{
+    let done = mask_between(copy, 0, place);
+    let end = copy.len();
+    mask_between(copy, done, end);
+}
+
+// Writes the masked copy of a file that is cut at places that look random into the front of an output that has room for it.
+fn in_chunks(file: &[u8], out: &mut [u8])
+    ensures { λ _. ⌜ now (out .exit) ≡ copiedInto (now (file .entry)) (now (out .entry)) ⌝ }
+{
+    let length = file.len();
+    if length <= out.len() {
+        bytes::copy(file, out);
+        mask_in_chunks(&mut out[0..length]);
     }
 }
 
-impl Copying {
-    // Nothing has come.
-    fn open(edition: u64) -> Copying
-        ensures { λ r. ⌜ r .done + r .waiting ≡ 0 ⌝ }
-    {
-        Copying {
-            stream: Stream::open(edition),
-            waiting: 0,
-            done: 0,
-        }
-    }
-
-    // Takes a chunk, for which the window and the copy have room.
-    fn take(self, chunk: &[u8], window: &mut [u8], copy: &mut [u8]) -> Copying
-        requires { ⌜ self .waiting + length (now chunk) ≤ length (now window) ⌝ }
-        requires { ⌜ self .done + self .waiting + length (now chunk) ≤ length (now copy) ⌝ }
-        ensures { λ r. ⌜ r .done + r .waiting ≡ self .done + self .waiting + length (now (chunk .entry)) ⌝ }
-    {
-        let stream = self.stream;
-        let waiting = self.waiting;
-        let done = self.done;
-        let filled = waiting + chunk.len();
-        bytes::copy(chunk, &mut window[waiting..]);
-        let finished = mask_front(window, filled);
-        let written = done + finished;
-        bytes::copy(&window[0..finished], &mut copy[done..]);
-        move_to_front(window, finished, filled);
-        Copying {
-            stream: stream.take(chunk),
-            waiting: filled - finished,
-            done: written,
-        }
-    }
-
-    // The answer, where no byte comes any more.
-    fn answer(self) -> CardAnswer {
-        let stream = self.stream;
-        stream.end().answer()
+// The same of a file that is cut in two at a place.
+fn in_two(file: &[u8], place: usize, out: &mut [u8])
+    requires { ⌜ place ≤ length (now file) ⌝ }
+    ensures { λ _. ⌜ now (out .exit) ≡ copiedInto (now (file .entry)) (now (out .entry)) ⌝ }
+{
+    let length = file.len();
+    if length <= out.len() {
+        bytes::copy(file, out);
+        mask_in_two(&mut out[0..length], place);
     }
 }
 
-// Fills an output, and puts the copy of an accepted file in front. A refused file's copy is dropped.
-fn put_accepted(answer: CardAnswer, copy: &[u8], out: &mut [u8])
-    requires { ⌜ length (now copy) ≤ length (now out) ⌝ }
+// Fills an output, and puts the copy of an accepted file in front, masked in chunks.
+pub fn put_in_chunks(answer: CardAnswer, file: &[u8], out: &mut [u8]) {
+    output::fill(out);
+    if let CardAnswer::Accepted(_) = answer {
+        in_chunks(file, out);
+    }
+}
+
+// The same, cut in two at a place.
+fn put_in_two(answer: CardAnswer, file: &[u8], place: usize, out: &mut [u8])
+    requires { ⌜ place ≤ length (now file) ⌝ }
 {
     output::fill(out);
     if let CardAnswer::Accepted(_) = answer {
-        bytes::copy(copy, out);
+        in_two(file, place, out);
     }
 }
 
-// Copies a file that is cut at places that look random: its own hash picks them. There are no more cuts than bytes.
-fn copy_in_chunks(edition: u64, file: &[u8], window: &mut [u8], copy: &mut [u8]) -> CardAnswer
-    requires { ⌜ length (now file) ≤ length (now window) ⌝ }
-    requires { ⌜ length (now file) ≤ length (now copy) ⌝ }
-{
-    let mut copying = Copying::open(edition);
-    let mut cuts = Cuts {
-        state: hash::hash(file),
-    };
-    let mut at = 0;
-    let mut turns = file.len();
-    while turns > 0 && at < file.len() {
-        cuts = cuts.next();
-        let end = cuts.behind(at, file.len());
-        copying = copying.take(&file[at..end], window, copy);
-        at = end;
-        turns -= 1;
+// How many of all the cuts of a file in two give an output of this hash.
+pub fn cuts_alike(answer: CardAnswer, file: &[u8], out: &mut [u8], whole: u64) -> u64 {
+    let mut alike = 0;
+    let mut place = 0;
+    while place <= file.len() {
+        put_in_two(answer, file, place, out);
+        if hash(out) == whole {
+            alike += 1;
+        }
+        place += 1;
     }
-    copying.take(&file[at..], window, copy).answer()
-}
-
-// Copies a file that is cut in two at a place.
-fn copy_in_two(
-    edition: u64,
-    file: &[u8],
-    place: usize,
-    window: &mut [u8],
-    copy: &mut [u8],
-) -> CardAnswer
-    requires { ⌜ place ≤ length (now file) ⌝ }
-    requires { ⌜ length (now file) ≤ length (now window) ⌝ }
-    requires { ⌜ length (now file) ≤ length (now copy) ⌝ }
-{
-    let first = Copying::open(edition).take(&file[0..place], window, copy);
-    first.take(&file[place..], window, copy).answer()
-}
-
-// The answer and the output of a file that is cut at places that look random; no answer where there is no room for it.
-pub fn in_chunks(edition: u64, file: &[u8], out: &mut [u8]) -> CardAnswer {
-    if ROOM < file.len() {
-        return CardAnswer::GoingOn;
-    }
-    if out.len() < file.len() {
-        return CardAnswer::GoingOn;
-    }
-    let mut window = [0u8; ROOM];
-    let mut copy = [0u8; ROOM];
-    let answer = copy_in_chunks(edition, file, &mut window, &mut copy);
-    let length = file.len();
-    put_accepted(answer, &copy[0..length], out);
-    answer
-}
-
-// The answer and the output of a file that is cut in two at a place; no answer where there is no room for it, or no such place.
-pub fn in_two(edition: u64, file: &[u8], place: usize, out: &mut [u8]) -> CardAnswer {
-    if ROOM < file.len() {
-        return CardAnswer::GoingOn;
-    }
-    if out.len() < file.len() {
-        return CardAnswer::GoingOn;
-    }
-    if file.len() < place {
-        return CardAnswer::GoingOn;
-    }
-    let mut window = [0u8; ROOM];
-    let mut copy = [0u8; ROOM];
-    let answer = copy_in_two(edition, file, place, &mut window, &mut copy);
-    let length = file.len();
-    put_accepted(answer, &copy[0..length], out);
-    answer
+    alike
 }

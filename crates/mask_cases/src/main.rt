@@ -1,22 +1,17 @@
 // Masked copies: prints the answer of each case and the hash of its output, a line each, first of the outside cases and then of our own: of files read
 // whole, then in chunks, and of the small ones of our own cut in two at every place.
-use cases::cursor::Cursor;
+ghost use Prim.Native.Nat.{_+_, _≤_, min};
+ghost use lib.ListN.{length};
+use cases::cursor;
 use cases::cursor::EDITION_BYTES;
 use cases::cursor::LENGTH_BYTES;
-use cases::cursor::Number;
-use cases::cursor::Place;
 use cases::file;
-use cases::print;
+use cases::output;
+use cases::source::Source;
+use cases::source::Way;
 
 mod copying;
 mod line;
-
-// How a file is given to the library.
-enum Way {
-    Whole,
-    InChunks,
-    CutAtEveryPlace,
-}
 
 // Prints the line of a file and its output.
 fn print_file(edition: u64, file: &[u8], out: &mut [u8], way: Way) {
@@ -27,65 +22,48 @@ fn print_file(edition: u64, file: &[u8], out: &mut [u8], way: Way) {
     }
 }
 
-// The same, where the output is so many bytes in front of the room.
-fn print_file_in(room: &mut [u8], edition: u64, file: &[u8], size: u64, way: Way) {
-    let end = size as usize;
-    if room.len() < end {
-        print::text(b"an output is too long\n");
+// The same in an output of so many bytes.
+fn print_file_in(edition: u64, file: &[u8], size: usize, way: Way) {
+    let mut room = [0u8; 4096];
+    if 4096 < size {
+        output::print_too_long();
         return;
     }
-    print_file(edition, file, &mut room[0..end], way);
+    print_file(edition, file, &mut room[0..size], way);
 }
 
-// Prints the answer of the case that stands here, and answers the place behind it.
-fn print_case(cases: &[u8], from: Cursor, room: &mut [u8], way: Way) -> Place {
-    let Number::Of(edition, at_size) = from.number(cases, EDITION_BYTES) else {
-        return Place::Missing;
-    };
-    let Number::Of(size, at_length) = at_size.number(cases, LENGTH_BYTES) else {
-        return Place::Missing;
-    };
-    let Number::Of(length, at_file) = at_length.number(cases, LENGTH_BYTES) else {
-        return Place::Missing;
-    };
-    let Place::At(next) = at_file.behind(cases, length) else {
-        return Place::Missing;
-    };
-    print_file_in(room, edition, at_file.part(cases, length), size, way);
-    Place::At(next)
+// Prints the line of the case at a place, and answers the place behind it.
+fn print_case(cases: &[u8], at: usize, way: Way) -> usize
+    ensures { λ r. ⌜ min (at + 1) (length (now (cases .entry))) ≤ r ⌝ }
+{
+    let edition = cursor::number_at(cases, at, EDITION_BYTES);
+    let size = cursor::number_at(cases, edition.behind, LENGTH_BYTES);
+    let length = cursor::number_at(cases, size.behind, LENGTH_BYTES);
+    print_file_in(edition.value, length.part(cases), size.value as usize, way);
+    length.behind_part()
 }
 
-// Prints the answers of all cases. Each case takes a byte at least, so there are no more turns than bytes.
-fn print_cases(cases: &[u8], room: &mut [u8], way: Way) {
-    let mut from = Cursor::start();
-    let mut turns = cases.len();
-    while turns > 0 && from.has(cases, 1) {
-        let Place::At(next) = print_case(cases, from, room, way) else {
-            print::text(b"a case is cut short\n");
-            return;
-        };
-        from = next;
-        turns -= 1;
+// Prints the lines of all cases.
+fn print_cases(cases: &[u8], way: Way) {
+    let mut at = 0;
+    while at < cases.len() {
+        at = print_case(cases, at, way);
     }
+    cursor::print_end(cases, at);
 }
 
-// Prints the answers of a file of cases.
-fn print_all(path: &[u8], room: &mut [u8], way: Way) {
+// Prints the lines of a file of cases.
+fn print_all(source: Source, way: Way) {
     let mut buffer = file::room();
-    let size = file::load(path, &mut buffer);
-    print_cases(&buffer[..size], room, way);
+    source.print_title(way);
+    let size = source.load(&mut buffer);
+    print_cases(&buffer[..size], way);
 }
 
 fn main() {
-    let mut room = [0u8; 4096];
-    print::text(b"outside\n");
-    print_all(b"outside.cases", &mut room, Way::Whole);
-    print::text(b"own\n");
-    print_all(b"own.cases", &mut room, Way::Whole);
-    print::text(b"outside, in chunks\n");
-    print_all(b"outside.cases", &mut room, Way::InChunks);
-    print::text(b"own, in chunks\n");
-    print_all(b"own.cases", &mut room, Way::InChunks);
-    print::text(b"own, cut at every place\n");
-    print_all(b"own.cases", &mut room, Way::CutAtEveryPlace);
+    print_all(Source::Outside, Way::Whole);
+    print_all(Source::Own, Way::Whole);
+    print_all(Source::Outside, Way::InChunks);
+    print_all(Source::Own, Way::InChunks);
+    print_all(Source::Own, Way::CutAtEveryPlace);
 }

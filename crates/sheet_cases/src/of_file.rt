@@ -1,12 +1,14 @@
 // The day sheet of a card file. A case is an edition, the output's length, and the file.
+ghost use Prim.Native.Nat.{_+_, _≤_, min};
+ghost use lib.ListN.{length};
+use crate::output::ROOM;
 use crate::output::Told;
 use crate::output::print_output;
 use cases::answer;
-use cases::cursor::Cursor;
+use cases::cursor;
 use cases::cursor::EDITION_BYTES;
 use cases::cursor::LENGTH_BYTES;
-use cases::cursor::Number;
-use cases::cursor::Place;
+use cases::file;
 use cases::output;
 use cases::print;
 
@@ -15,48 +17,42 @@ fn print_answer(edition: u64, file: &[u8], out: &mut [u8]) {
     output::fill(out);
     answer::print_card_answer(card_sheet::sheet_of(edition, file, out));
     print_output(out, Told::InHex);
-    print::text(b"\n");
 }
 
-// The same, where the output is so many bytes in front of the room.
-fn print_answer_in(room: &mut [u8], edition: u64, file: &[u8], size: u64) {
-    let end = size as usize;
-    if room.len() < end {
-        print::text(b"an output is too long\n");
+// The same in an output of so many bytes.
+fn print_answer_in(edition: u64, file: &[u8], size: usize) {
+    let mut room = [0u8; ROOM];
+    if ROOM < size {
+        output::print_too_long();
         return;
     }
-    print_answer(edition, file, &mut room[0..end]);
+    print_answer(edition, file, &mut room[0..size]);
 }
 
-// Prints the answer of the case that stands here, and answers the place behind it.
-fn print_case(cases: &[u8], from: Cursor) -> Place {
-    let Number::Of(edition, at_size) = from.number(cases, EDITION_BYTES) else {
-        return Place::Missing;
-    };
-    let Number::Of(size, at_length) = at_size.number(cases, LENGTH_BYTES) else {
-        return Place::Missing;
-    };
-    let Number::Of(length, at_file) = at_length.number(cases, LENGTH_BYTES) else {
-        return Place::Missing;
-    };
-    let Place::At(next) = at_file.behind(cases, length) else {
-        return Place::Missing;
-    };
-    let mut room = [0u8; 104];
-    print_answer_in(&mut room, edition, at_file.part(cases, length), size);
-    Place::At(next)
+// Prints the line of the case at a place, and answers the place behind it.
+fn print_case(cases: &[u8], at: usize) -> usize
+    ensures { λ r. ⌜ min (at + 1) (length (now (cases .entry))) ≤ r ⌝ }
+{
+    let edition = cursor::number_at(cases, at, EDITION_BYTES);
+    let size = cursor::number_at(cases, edition.behind, LENGTH_BYTES);
+    let length = cursor::number_at(cases, size.behind, LENGTH_BYTES);
+    print_answer_in(edition.value, length.part(cases), size.value as usize);
+    length.behind_part()
 }
 
-// Prints the answers of all cases. Each case takes a byte at least, so there are no more turns than bytes.
-pub fn print_cases(cases: &[u8]) {
-    let mut from = Cursor::start();
-    let mut turns = cases.len();
-    while turns > 0 && from.has(cases, 1) {
-        let Place::At(next) = print_case(cases, from) else {
-            print::text(b"a case is cut short\n");
-            return;
-        };
-        from = next;
-        turns -= 1;
+// Prints the lines of all cases.
+fn print_cases(cases: &[u8]) {
+    let mut at = 0;
+    while at < cases.len() {
+        at = print_case(cases, at);
     }
+    cursor::print_end(cases, at);
+}
+
+// Prints the lines of our own file of cases.
+pub fn print_own() {
+    let mut buffer = file::room();
+    print::text(b"own of a file\n");
+    let size = file::load(b"own_of_file.cases", &mut buffer);
+    print_cases(&buffer[..size]);
 }

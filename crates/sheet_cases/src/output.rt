@@ -1,7 +1,9 @@
 // How a line tells of an output.
-use cases::answer;
 use cases::hash;
 use cases::print;
+
+// How many bytes the longest output of a case has.
+pub const ROOM: usize = 104;
 
 pub enum Told {
     // By its hash, as the outside cases do.
@@ -10,13 +12,16 @@ pub enum Told {
     InHex,
 }
 
+// Ends a line with its output.
 pub fn print_output(out: &[u8], told: Told) {
+    print::byte(b' ');
     match told {
-        Told::ByHash => answer::next_number(hash::hash(out)),
+        Told::ByHash => print::number(hash::hash(out)),
         Told::InHex => {
-            print::text(b" [");
+            print::byte(b'[');
             print::hex(out);
-            print::text(b"]");
+            print::byte(b']');
         }
     }
+    print::byte(b'\n');
 }

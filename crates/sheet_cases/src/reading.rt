@@ -1,67 +1,63 @@
 // Sheets to read. A case is a length, and so many bytes.
+ghost use Prim.Native.Nat.{_+_, _≤_, min};
+ghost use lib.ListN.{length};
 use cases::answer;
-use cases::cursor::Cursor;
+use cases::cursor;
 use cases::cursor::LENGTH_BYTES;
-use cases::cursor::Number;
-use cases::cursor::Place;
+use cases::file;
 use cases::print;
 use day_sheet::reader::SheetRead;
 use day_sheet::sheet::Sheet;
 
-// The digits of a date, AAAAMMDD, and of a movement.
-const DATE_DIGITS: usize = 8;
-
-const MOVEMENT_DIGITS: usize = 6;
-
 // `A edition date movement batches sales gross discount net`
 fn print_sheet(sheet: Sheet) {
-    let totals = sheet.totals;
-    let amounts = totals.amounts;
-    print::text(b"A");
+    print::byte(b'A');
     answer::next_number(sheet.edition);
-    print::text(b" ");
-    print::padded(sheet.date, DATE_DIGITS);
-    print::text(b" ");
-    print::padded(sheet.movement, MOVEMENT_DIGITS);
+    answer::next_day(sheet.date, sheet.movement);
     answer::next_number(sheet.batches);
-    answer::next_number(totals.sales);
-    answer::next_number(amounts.gross);
-    answer::next_number(amounts.discount);
-    answer::next_number(amounts.net);
+    answer::next_totals(sheet.totals);
 }
 
 // Prints the answer of some bytes, a line.
 fn print_answer(bytes: &[u8]) {
-    let read = day_sheet::reader::read(bytes);
-    match read {
+    match day_sheet::reader::read(bytes) {
         SheetRead::Read(sheet) => print_sheet(sheet),
         SheetRead::Refused(refusal) => answer::print_refusal(refusal),
     }
-    print::text(b"\n");
+    print::byte(b'\n');
 }
 
-// Prints the answer of the case that stands here, and answers the place behind it.
-fn print_case(cases: &[u8], from: Cursor) -> Place {
-    let Number::Of(length, at_bytes) = from.number(cases, LENGTH_BYTES) else {
-        return Place::Missing;
-    };
-    let Place::At(next) = at_bytes.behind(cases, length) else {
-        return Place::Missing;
-    };
-    print_answer(at_bytes.part(cases, length));
-    Place::At(next)
+// Prints the line of the case at a place, and answers the place behind it.
+fn print_case(cases: &[u8], at: usize) -> usize
+    ensures { λ r. ⌜ min (at + 1) (length (now (cases .entry))) ≤ r ⌝ }
+{
+    let length = cursor::number_at(cases, at, LENGTH_BYTES);
+    print_answer(length.part(cases));
+    length.behind_part()
 }
 
-// Prints the answers of all cases. Each case takes a byte at least, so there are no more turns than bytes.
-pub fn print_cases(cases: &[u8]) {
-    let mut from = Cursor::start();
-    let mut turns = cases.len();
-    while turns > 0 && from.has(cases, 1) {
-        let Place::At(next) = print_case(cases, from) else {
-            print::text(b"a case is cut short\n");
-            return;
-        };
-        from = next;
-        turns -= 1;
+// Prints the lines of all cases.
+fn print_cases(cases: &[u8]) {
+    let mut at = 0;
+    while at < cases.len() {
+        at = print_case(cases, at);
     }
+    cursor::print_end(cases, at);
+}
+
+// Prints the lines of a file of cases.
+fn print_file(path: &[u8]) {
+    let mut buffer = file::room();
+    let size = file::load(path, &mut buffer);
+    print_cases(&buffer[..size]);
+}
+
+pub fn print_outside() {
+    print::text(b"outside read\n");
+    print_file(b"outside_read.cases");
+}
+
+pub fn print_own() {
+    print::text(b"own read\n");
+    print_file(b"own_read.cases");
 }

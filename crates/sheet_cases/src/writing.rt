@@ -1,11 +1,15 @@
 // Sheets to write. A case is the output's length, and the numbers of a sheet.
+ghost use mathlib.Core.Path.{_≡_};
+ghost use Prim.Native.Nat.{_+_, _≤_, min};
+ghost use lib.ListN.{length};
+ghost use Rattle.sheet_cases.specs.Written.{amountsAt, totalsAt, sheetAt};
+use crate::output::ROOM;
 use crate::output::Told;
 use crate::output::print_output;
 use cases::answer;
-use cases::cursor::Cursor;
+use cases::cursor;
 use cases::cursor::LENGTH_BYTES;
-use cases::cursor::Number;
-use cases::cursor::Place;
+use cases::file;
 use cases::output;
 use cases::print;
 use day_sheet::sheet::Sheet;
@@ -13,131 +17,105 @@ use day_sheet::writer::SheetWritten;
 use totals::amounts::Amounts;
 use totals::amounts::Totals;
 
-// How many bytes each number of a sheet takes.
-const NUMBER_BYTES: usize = 8;
+// How many bytes each number of a sheet takes, and all eight of them.
+const NUMBER_BYTES: u64 = 8;
 
-// The parts of a sheet that stand at a cursor, and the place behind them.
-enum AmountsFound {
-    Of(Amounts, Cursor),
-    Missing,
-}
-
-enum TotalsFound {
-    Of(Totals, Cursor),
-    Missing,
-}
-
-enum SheetFound {
-    Of(Sheet, Cursor),
-    Missing,
-}
+const SHEET_BYTES: u64 = 64;
 
 // Gross, discount, net.
-fn amounts_at(cases: &[u8], from: Cursor) -> AmountsFound {
-    let Number::Of(gross, at_discount) = from.number(cases, NUMBER_BYTES) else {
-        return AmountsFound::Missing;
-    };
-    let Number::Of(discount, at_net) = at_discount.number(cases, NUMBER_BYTES) else {
-        return AmountsFound::Missing;
-    };
-    let Number::Of(net, behind) = at_net.number(cases, NUMBER_BYTES) else {
-        return AmountsFound::Missing;
-    };
-    AmountsFound::Of(
-        Amounts {
-            gross,
-            discount,
-            net,
-        },
-        behind,
-    )
+fn amounts_at(cases: &[u8], at: usize) -> Amounts
+    ensures { λ r. ⌜ r ≡ amountsAt (now (cases .entry)) at ⌝ }
+{
+    let gross = cursor::number_at(cases, at, NUMBER_BYTES);
+    let discount = cursor::number_at(cases, gross.behind, NUMBER_BYTES);
+    let net = cursor::number_at(cases, discount.behind, NUMBER_BYTES);
+    Amounts {
+        gross: gross.value,
+        discount: discount.value,
+        net: net.value,
+    }
 }
 
 // Sales, and the amounts.
-fn totals_at(cases: &[u8], from: Cursor) -> TotalsFound {
-    let Number::Of(sales, at_amounts) = from.number(cases, NUMBER_BYTES) else {
-        return TotalsFound::Missing;
-    };
-    let AmountsFound::Of(amounts, behind) = amounts_at(cases, at_amounts) else {
-        return TotalsFound::Missing;
-    };
-    TotalsFound::Of(Totals { sales, amounts }, behind)
+fn totals_at(cases: &[u8], at: usize) -> Totals
+    ensures { λ r. ⌜ r ≡ totalsAt (now (cases .entry)) at ⌝ }
+{
+    let sales = cursor::number_at(cases, at, NUMBER_BYTES);
+    Totals {
+        sales: sales.value,
+        amounts: amounts_at(cases, sales.behind),
+    }
 }
 
 // Edition, date, movement, batches, and the totals.
-fn sheet_at(cases: &[u8], from: Cursor) -> SheetFound {
-    let Number::Of(edition, at_date) = from.number(cases, NUMBER_BYTES) else {
-        return SheetFound::Missing;
-    };
-    let Number::Of(date, at_movement) = at_date.number(cases, NUMBER_BYTES) else {
-        return SheetFound::Missing;
-    };
-    let Number::Of(movement, at_batches) = at_movement.number(cases, NUMBER_BYTES) else {
-        return SheetFound::Missing;
-    };
-    let Number::Of(batches, at_totals) = at_batches.number(cases, NUMBER_BYTES) else {
-        return SheetFound::Missing;
-    };
-    let TotalsFound::Of(totals, behind) = totals_at(cases, at_totals) else {
-        return SheetFound::Missing;
-    };
-    SheetFound::Of(
-        Sheet {
-            edition,
-            date,
-            movement,
-            batches,
-            totals,
-        },
-        behind,
-    )
+fn sheet_at(cases: &[u8], at: usize) -> Sheet
+    ensures { λ r. ⌜ r ≡ sheetAt (now (cases .entry)) at ⌝ }
+{
+    let edition = cursor::number_at(cases, at, NUMBER_BYTES);
+    let date = cursor::number_at(cases, edition.behind, NUMBER_BYTES);
+    let movement = cursor::number_at(cases, date.behind, NUMBER_BYTES);
+    let batches = cursor::number_at(cases, movement.behind, NUMBER_BYTES);
+    Sheet {
+        edition: edition.value,
+        date: date.value,
+        movement: movement.value,
+        batches: batches.value,
+        totals: totals_at(cases, batches.behind),
+    }
 }
 
 // Writes a sheet into an output, and prints the answer and the output, a line: `A output` or `R number record column output`.
 fn print_answer(sheet: Sheet, out: &mut [u8], told: Told) {
     output::fill(out);
-    let written = day_sheet::writer::write(sheet, out);
-    match written {
-        SheetWritten::Written => print::text(b"A"),
+    match day_sheet::writer::write(sheet, out) {
+        SheetWritten::Written => print::byte(b'A'),
         SheetWritten::Refused(refusal) => answer::print_refusal(refusal),
     }
     print_output(out, told);
-    print::text(b"\n");
 }
 
-// The same, where the output is so many bytes in front of the room.
-fn print_answer_in(room: &mut [u8], sheet: Sheet, size: u64, told: Told) {
-    let end = size as usize;
-    if room.len() < end {
-        print::text(b"an output is too long\n");
+// The same in an output of so many bytes.
+fn print_answer_in(sheet: Sheet, size: usize, told: Told) {
+    let mut room = [0u8; ROOM];
+    if ROOM < size {
+        output::print_too_long();
         return;
     }
-    print_answer(sheet, &mut room[0..end], told);
+    print_answer(sheet, &mut room[0..size], told);
 }
 
-// Prints the answer of the case that stands here, and answers the place behind it.
-fn print_case(cases: &[u8], from: Cursor, told: Told) -> Place {
-    let Number::Of(size, at_sheet) = from.number(cases, LENGTH_BYTES) else {
-        return Place::Missing;
-    };
-    let SheetFound::Of(sheet, next) = sheet_at(cases, at_sheet) else {
-        return Place::Missing;
-    };
-    let mut room = [0u8; 104];
-    print_answer_in(&mut room, sheet, size, told);
-    Place::At(next)
+// Prints the line of the case at a place, and answers the place behind it.
+fn print_case(cases: &[u8], at: usize, told: Told) -> usize
+    ensures { λ r. ⌜ min (at + 1) (length (now (cases .entry))) ≤ r ⌝ }
+{
+    let size = cursor::number_at(cases, at, LENGTH_BYTES);
+    print_answer_in(sheet_at(cases, size.behind), size.value as usize, told);
+    let last = cursor::number_at(cases, size.behind, SHEET_BYTES);
+    last.behind
 }
 
-// Prints the answers of all cases. Each case takes a byte at least, so there are no more turns than bytes.
-pub fn print_cases(cases: &[u8], told: Told) {
-    let mut from = Cursor::start();
-    let mut turns = cases.len();
-    while turns > 0 && from.has(cases, 1) {
-        let Place::At(next) = print_case(cases, from, told) else {
-            print::text(b"a case is cut short\n");
-            return;
-        };
-        from = next;
-        turns -= 1;
+// Prints the lines of all cases.
+fn print_cases(cases: &[u8], told: Told) {
+    let mut at = 0;
+    while at < cases.len() {
+        at = print_case(cases, at, told);
     }
+    cursor::print_end(cases, at);
+}
+
+// Prints the lines of a file of cases.
+fn print_file(path: &[u8], told: Told) {
+    let mut buffer = file::room();
+    let size = file::load(path, &mut buffer);
+    print_cases(&buffer[..size], told);
+}
+
+pub fn print_outside() {
+    print::text(b"outside write\n");
+    print_file(b"outside_write.cases", Told::ByHash);
+}
+
+pub fn print_own() {
+    print::text(b"own write\n");
+    print_file(b"own_write.cases", Told::InHex);
 }

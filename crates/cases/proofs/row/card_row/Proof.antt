@@ -6,21 +6,6 @@ use borrow.Author.Needs.{needs}
 use Rattle.cases.proofs.row.card_row.Statement.{statement}
 use Rattle.cases.proofs.row.card_row.Tie as tie
 
-enum-told : tie.Need-enum-told
-enum-told c = search needs
-
-enum-known-answer : tie.Need-enum-known-answer
-enum-known-answer c = search needs
-
-accepted-row-requires : tie.Need-accepted-row-requires
-accepted-row-requires c κs = search needs
-
-enum-known-answer-2 : tie.Need-enum-known-answer-2
-enum-known-answer-2 c = search needs
-
-refused-row-requires : tie.Need-refused-row-requires
-refused-row-requires c κs = search needs
-
 returns : tie.Need-returns
 unfolding rowOf
 returns c = sym (rw (c .enum-told .given .1))
@@ -35,11 +20,11 @@ pub card-row-spec : {M : Type 1} → statement M
 card-row-spec =
     tie.close
     (tie.spec
-    enum-told
-    enum-known-answer
-    accepted-row-requires
-    enum-known-answer-2
-    refused-row-requires
+    (λ c. search needs)
+    (λ c. search needs)
+    (λ c κs. search needs)
+    (λ c. search needs)
+    (λ c κs. search needs)
     returns
     returns-2
     returns-3)

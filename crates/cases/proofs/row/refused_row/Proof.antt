@@ -4,12 +4,9 @@ use borrow.Author.Needs.{needs}
 use Rattle.cases.proofs.row.refused_row.Statement.{statement}
 use Rattle.cases.proofs.row.refused_row.Tie as tie
 
-number-requires : tie.Need-number-requires
-number-requires c κs = search needs
-
 returns : tie.Need-returns
 unfolding rowOf
 returns c = rw (c .number .ensures)
 
 pub refused-row-spec : {M : Type 1} → statement M
-refused-row-spec = tie.close (tie.spec number-requires returns)
+refused-row-spec = tie.close (tie.spec (λ c κs. search needs) returns)

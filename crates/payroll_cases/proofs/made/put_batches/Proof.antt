@@ -12,37 +12,16 @@ Inv-loop batches payments amount sum out₀ at end₀ batch₀ out end batch = l
 abbrev μ-loop : tie.MeasureT-loop
 μ-loop batches payments amount sum out₀ at end₀ batch₀ out end batch = batches - batch
 
-loop-holds : tie.Need-loop-holds Inv-loop μ-loop
-loop-holds c = search needs
-
-add-batch : tie.Need-add-batch Inv-loop μ-loop
-add-batch c = search needs
-
-put-batch-requires : tie.Need-put-batch-requires Inv-loop μ-loop
-put-batch-requires c κs = search needs
-
-loop-less : tie.Need-loop-less Inv-loop μ-loop
-loop-less c = search needs
-
-loop-again : tie.Need-loop-again Inv-loop μ-loop
-loop-again c = search needs
-
-same-length : tie.Need-same-length Inv-loop μ-loop
-same-length c = search needs
-
-returns : tie.Need-returns Inv-loop μ-loop
-returns c = search needs
-
 pub put-batches-spec : {M : Type 1} → statement M
 put-batches-spec =
     tie.close
     (tie.spec
     Inv-loop
     μ-loop
-    loop-holds
-    add-batch
-    put-batch-requires
-    loop-less
-    loop-again
-    same-length
-    returns)
+    (λ c. search needs)
+    (λ c. search needs)
+    (λ c κs. search needs)
+    (λ c. search needs)
+    (λ c. search needs)
+    (λ c. search needs)
+    (λ c. search needs))

@@ -6,15 +6,6 @@ use borrow.Author.Needs.{needs}
 use Rattle.payroll_cases.proofs.row.payroll_row.Statement.{statement}
 use Rattle.payroll_cases.proofs.row.payroll_row.Tie as tie
 
-enum-known-answer : tie.Need-enum-known-answer
-enum-known-answer c = search needs
-
-enum-known-answer-2 : tie.Need-enum-known-answer-2
-enum-known-answer-2 c = search needs
-
-number-requires : tie.Need-number-requires
-number-requires c κs = search needs
-
 returns : tie.Need-returns
 unfolding rowOf
 returns c = ap payrollNumbers (sym (c .before .answer .given .1))
@@ -25,4 +16,4 @@ returns-2 c = rw (c .number .ensures) (ap payrollNumbers (sym (c .before .before
 
 pub payroll-row-spec : {M : Type 1} → statement M
 payroll-row-spec =
-    tie.close (tie.spec enum-known-answer enum-known-answer-2 number-requires returns returns-2)
+    tie.close (tie.spec (λ c. search needs) (λ c. search needs) (λ c κs. search needs) returns returns-2)

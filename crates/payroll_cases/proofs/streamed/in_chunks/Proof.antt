@@ -1,72 +1,40 @@
--- `payroll_cases::streamed::in_chunks` is safe and ends. The invariant: the place lies within the file. The measure is the number of turns that are left.
-use Prim.Native.Nat.{_≤_}
-use lib.ListN.{length}
+-- `payroll_cases::streamed::in_chunks` meets its contract. The invariant: with what is still to come the stream is that of the whole file as one chunk.
+use Prim.Native.Nat.{_-_, _≤_}
+use mathlib.Core.Path.{_≡_, _∙_}
+use native.Mathlib.Omega.{arith}
+use lib.ListN.{length, drop}
 use borrow.Author.Needs.{needs}
+use Rattle.payroll_stream.specs.declared.Progress.the-variants.{GoingOn}
+use Rattle.payroll_stream.specs.Stream.{openOf, takenOf}
+use Rattle.payroll_cases.proofs.Chunks.{goes-on, chunk-on, at-the-end}
 use Rattle.payroll_cases.proofs.streamed.in_chunks.Statement.{statement}
 use Rattle.payroll_cases.proofs.streamed.in_chunks.Tie as tie
 
 abbrev Inv-loop : tie.InvT-loop
-Inv-loop file stream₀ cuts₀ at₀ turns₀ stream cuts at turns = at ≤ length file
+Inv-loop file stream₀ cuts₀ at₀ counter₀ end stream cuts at counter =
+    (at ≤ length file) × (counter ≤ end) × (stream .progress ≡ GoingOn) × (takenOf stream (drop at file) ≡ takenOf openOf file)
 
 abbrev μ-loop : tie.MeasureT-loop
-μ-loop file stream₀ cuts₀ at₀ turns₀ stream cuts at turns = turns
-
-open-requires : tie.Need-open-requires Inv-loop μ-loop
-open-requires c κs = search needs
-
-hash-requires : tie.Need-hash-requires Inv-loop μ-loop
-hash-requires c κs = search needs
+μ-loop file stream₀ cuts₀ at₀ counter₀ end stream cuts at counter = end - counter
 
 loop-holds : tie.Need-loop-holds Inv-loop μ-loop
-loop-holds c = search needs
-
-next-requires : tie.Need-next-requires Inv-loop μ-loop
-next-requires c κs = search needs
-
-behind-requires : tie.Need-behind-requires Inv-loop μ-loop
-behind-requires c κs = search needs
-
-sub-take : tie.Need-sub-take Inv-loop μ-loop
-sub-take c = search needs
-
-part-take-start : tie.Need-part-take-start Inv-loop μ-loop
-part-take-start c = search needs
-
-part-take-end : tie.Need-part-take-end Inv-loop μ-loop
-part-take-end c = search needs
-
-take-requires : tie.Need-take-requires Inv-loop μ-loop
-take-requires c κs = search needs
-
-sub-turns : tie.Need-sub-turns Inv-loop μ-loop
-sub-turns c = search needs
-
-loop-less : tie.Need-loop-less Inv-loop μ-loop
-loop-less c = search needs
+loop-holds c = (search needs, search needs, rw (c .before .«open» .ensures), rw (c .before .«open» .ensures))
 
 loop-again : tie.Need-loop-again Inv-loop μ-loop
-loop-again c = search needs
-
-sub-take-2 : tie.Need-sub-take-2 Inv-loop μ-loop
-sub-take-2 c = search needs
-
-part-take-start-2 : tie.Need-part-take-start-2 Inv-loop μ-loop
-part-take-start-2 c = search needs
-
-part-take-end-2 : tie.Need-part-take-end-2 Inv-loop μ-loop
-part-take-end-2 c = search needs
-
-take-requires-2 : tie.Need-take-requires-2 Inv-loop μ-loop
-take-requires-2 c κs = search needs
-
-end-requires : tie.Need-end-requires Inv-loop μ-loop
-end-requires c κs = search needs
-
-answer-requires : tie.Need-answer-requires Inv-loop μ-loop
-answer-requires c κs = search needs
+loop-again c =
+    let l = c .before .before .before .before .before .loop in
+    let file = c .before .before .before .before .before .before .before .before .before .args .file .now in (
+      search needs,
+      search needs,
+      rw (c .take .ensures) (goes-on (l .stream) _ (l .inv .2)),
+      rw (c .take .ensures) (chunk-on (l .stream) file (l .at) (c .before .before .behind .result) (l .inv .2) (omega arith) ∙ l .inv .3),
+    )
 
 returns : tie.Need-returns Inv-loop μ-loop
-returns c = search needs
+returns c =
+    let l = c .before .before .before .loop in
+    let a = c .before .before .before .before .before .before .before .args in
+    c .finished .ensures ∙ at-the-end (l .stream) (a .file .now) (l .at) (l .inv .3)
 
 pub in-chunks-spec : {M : Type 1} → statement M
 in-chunks-spec =
@@ -74,22 +42,20 @@ in-chunks-spec =
     (tie.spec
     Inv-loop
     μ-loop
-    open-requires
-    hash-requires
+    (λ c κs. search needs)
+    (λ c κs. search needs)
     loop-holds
-    next-requires
-    behind-requires
-    sub-take
-    part-take-start
-    part-take-end
-    take-requires
-    sub-turns
-    loop-less
+    (λ c κs. search needs)
+    (λ c κs. search needs)
+    (λ c. search needs)
+    (λ c. search needs)
+    (λ c. search needs)
+    (λ c κs. search needs)
+    (λ c. search needs)
+    (λ c. search needs)
     loop-again
-    sub-take-2
-    part-take-start-2
-    part-take-end-2
-    take-requires-2
-    end-requires
-    answer-requires
+    (λ c. search needs)
+    (λ c. search needs)
+    (λ c. search needs)
+    (λ c κs. search needs)
     returns)

@@ -1,0 +1,21 @@
+-- A masked copy that is made in an output: step by step, and whole.
+use Prim.Native.Nat.{ℕ, _+_, _-_}
+use mathlib.Core.Path.{_≡_}
+use mathlib.Core.List.{List, _++_}
+use mathlib.Core.Bool.{cond}
+use lib.ListN.{length, take, drop}
+use lib.Dec.{leb}
+use Rattle.card_mask.specs.Masked.{maskedFile, finishedIn}
+
+-- the bytes between two places
+abbrev pub between : List ℕ → ℕ → ℕ → List ℕ
+between s done end = take (end - done) (drop done s)
+
+-- the records that are finished between two places are masked where they stand, and the answer is where they end
+pub record MasksBetween (copy : List ℕ) (done end answer : ℕ) (after : List ℕ) : Type 0 where
+  pub counts : answer ≡ done + finishedIn (between copy done end)
+  pub leaves : after ≡ take done copy ++ (maskedFile (between copy done end) ++ drop end copy)
+
+-- the masked copy of a file in front of an output that has room for it
+abbrev pub copiedInto : List ℕ → List ℕ → List ℕ
+copiedInto file out = cond (leb (length file) (length out)) (maskedFile file ++ drop (length file) out) out

@@ -1,0 +1,12 @@
+-- `sheet_cases::writing::sheet_at` meets its contract: each number stands behind the one before it.
+use borrow.Author.Needs.{needs}
+use Rattle.sheet_cases.specs.Written.{sheetAt}
+use Rattle.sheet_cases.proofs.writing.sheet_at.Statement.{statement}
+use Rattle.sheet_cases.proofs.writing.sheet_at.Tie as tie
+
+returns : tie.Need-returns
+unfolding sheetAt
+returns c = cc
+
+pub sheet-at-spec : {M : Type 1} → statement M
+sheet-at-spec = tie.close (tie.spec (λ c κs. search needs) (λ c κs. search needs) (λ c κs. search needs) (λ c κs. search needs) (λ c κs. search needs) returns)
