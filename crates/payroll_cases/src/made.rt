@@ -1,83 +1,164 @@
-// Files that are made here, because they are too long to be kept. Each function answers how many bytes its file has.
+// Files that are made here, because they are too long to be kept.
 use crate::record;
+use crate::record::Field;
+use crate::record::NONE;
+use crate::record::Record;
 
-// The largest amount of a payment.
-const LARGEST: u64 = 999_999_999_999_999;
+// The date of the file and of each payment, DDMMAAAA.
+const DATE: u64 = 15_112_023;
 
-// The sum of a thousand of them, the largest that has 18 digits.
-const SUM_OF_1000: u64 = 999_999_999_999_999_000;
+// The same behind the 1 at position 143 of the file header.
+const HEADER_DATE: u64 = 115_112_023;
 
-// The records of the eleven batches of `ten_batches_and`, with the file's header and trailer.
-pub const RECORDS_OF_ELEVEN: u64 = 10025;
+// A file: batches that differ only in their number, each of so many payments of one amount, with this sum in its trailer.
+pub struct Plan {
+    pub batches: u32,
+    pub payments: u32,
+    pub amount: u64,
+    pub sum: u64,
+    // The amount of the one payment of one more batch; 0 where there is none.
+    pub last: u64,
+    // How many records the file trailer counts.
+    pub records: u64,
+}
 
-// Puts so many payments of one amount.
+// Puts so many payments of one amount: the detail number 9-13, the date 94-101, the amount 120-134.
 fn put_payments(batch: u64, payments: u64, amount: u64, out: &mut [u8], at: usize) -> usize {
     let mut end = at;
     let mut number = 0;
     while number < payments {
         number += 1;
-        end = record::put_payment(batch, number, amount, out, end);
+        let payment = Record {
+            kind: 3,
+            batch,
+            letter: b'A',
+            one: Field {
+                first: 8,
+                last: 13,
+                number,
+            },
+            two: Field {
+                first: 93,
+                last: 101,
+                number: DATE,
+            },
+            three: Field {
+                first: 119,
+                last: 134,
+                number: amount,
+            },
+        };
+        end = record::put(payment, out, end);
     }
     end
 }
 
-// Puts a batch of so many payments of one amount, whose trailer has this sum.
+// Puts a batch. Its trailer has its records 18-23, the sum of its payments 24-41.
 fn put_batch(batch: u64, payments: u32, amount: u64, sum: u64, out: &mut [u8], at: usize) -> usize {
-    let header = record::put_batch_header(batch, out, at);
-    let last = put_payments(batch, payments as u64, amount, out, header);
-    record::put_batch_trailer(batch, payments as u64 + 2, sum, out, last)
+    let header = Record {
+        kind: 1,
+        batch,
+        letter: b' ',
+        one: NONE,
+        two: NONE,
+        three: NONE,
+    };
+    let trailer = Record {
+        kind: 5,
+        batch,
+        letter: b' ',
+        one: Field {
+            first: 17,
+            last: 23,
+            number: payments as u64 + 2,
+        },
+        two: Field {
+            first: 23,
+            last: 41,
+            number: sum,
+        },
+        three: NONE,
+    };
+    let first = record::put(header, out, at);
+    let last = put_payments(batch, payments as u64, amount, out, first);
+    record::put(trailer, out, last)
 }
 
-// Puts so many batches that differ only in their number.
-fn put_batches(
-    batches: u64,
-    payments: u32,
-    amount: u64,
-    sum: u64,
-    out: &mut [u8],
-    at: usize,
-) -> usize {
+// Puts the batches of a plan that differ only in their number.
+fn put_batches(plan: Plan, out: &mut [u8], at: usize) -> usize {
+    let batches = plan.batches as u64;
     let mut end = at;
     let mut batch = 0;
     while batch < batches {
         batch += 1;
-        end = put_batch(batch, payments, amount, sum, out, end);
+        end = put_batch(batch, plan.payments, plan.amount, plan.sum, out, end);
     }
     end
 }
 
-// Puts the file trailer, and the byte that ends a file.
-fn put_end(batches: u64, records: u64, out: &mut [u8], at: usize) -> usize {
-    let trailer = record::put_trailer(batches, records, out, at);
-    record::put_text(b"\x1a", out, trailer)
+// Puts the batch of one payment behind the others, where the plan has one.
+fn put_last(plan: Plan, out: &mut [u8], at: usize) -> usize {
+    if plan.last == 0 {
+        return at;
+    }
+    put_batch(plan.batches as u64 + 1, 1, plan.last, plan.last, out, at)
 }
 
-// One batch of so many payments of the largest amount, whose trailer has this sum.
-pub fn one_batch(payments: u32, sum: u64, out: &mut [u8]) -> usize {
-    let header = record::put_header(out, 0);
-    let batch = put_batch(1, payments, LARGEST, sum, out, header);
-    put_end(1, payments as u64 + 4, out, batch)
+// How many batches a plan has.
+fn batches_of(plan: Plan) -> u64 {
+    if plan.last == 0 {
+        return plan.batches as u64;
+    }
+    plan.batches as u64 + 1
 }
 
-// Ten batches of a thousand payments of the largest amount, 10^19 - 10000 in all, and an eleventh of one payment of this amount. The file trailer counts
-// so many records.
-pub fn ten_batches_and(amount: u64, records: u64, out: &mut [u8]) -> usize {
-    let header = record::put_header(out, 0);
-    let ten = put_batches(10, 1000, LARGEST, SUM_OF_1000, out, header);
-    let eleventh = put_batch(11, 1, amount, amount, out, ten);
-    put_end(11, records, out, eleventh)
+// Puts the file header, whose date is 144-151.
+fn put_header(out: &mut [u8]) -> usize {
+    let header = Record {
+        kind: 0,
+        batch: 0,
+        letter: b' ',
+        one: Field {
+            first: 142,
+            last: 151,
+            number: HEADER_DATE,
+        },
+        two: NONE,
+        three: NONE,
+    };
+    record::put(header, out, 0)
 }
 
-// So many batches of a thousand payments of the largest amount.
-pub fn full_batches(batches: u32, out: &mut [u8]) -> usize {
-    let header = record::put_header(out, 0);
-    let all = put_batches(batches as u64, 1000, LARGEST, SUM_OF_1000, out, header);
-    put_end(batches as u64, batches as u64 * 1002 + 2, out, all)
+// Puts the file trailer: the batches 18-23, all records 24-29.
+fn put_trailer(plan: Plan, out: &mut [u8], at: usize) -> usize {
+    let trailer = Record {
+        kind: 9,
+        batch: 9999,
+        letter: b' ',
+        one: Field {
+            first: 17,
+            last: 23,
+            number: batches_of(plan),
+        },
+        two: Field {
+            first: 23,
+            last: 29,
+            number: plan.records,
+        },
+        three: NONE,
+    };
+    record::put(trailer, out, at)
 }
 
-// So many batches with no payment.
-pub fn empty_batches(batches: u32, out: &mut [u8]) -> usize {
-    let header = record::put_header(out, 0);
-    let all = put_batches(batches as u64, 0, 0, 0, out, header);
-    put_end(batches as u64, batches as u64 * 2 + 2, out, all)
+// Puts the records of a file, and answers how many bytes they take.
+pub fn put_records(plan: Plan, out: &mut [u8]) -> usize {
+    let header = put_header(out);
+    let batches = put_batches(plan, out, header);
+    let last = put_last(plan, out, batches);
+    put_trailer(plan, out, last)
+}
+
+// Puts the byte that ends a file behind its records, and answers how many bytes are there then.
+pub fn put_end(out: &mut [u8], at: usize) -> usize {
+    record::put_behind(&[b'\x1a'], out, at)
 }

@@ -1,57 +1,108 @@
 // The lines of the files that are made here.
 use crate::line;
 use crate::made;
+use crate::made::Plan;
 use cases::print;
 
-// Prints the line of what was made: so many bytes in front of the room.
+// The largest amount of a payment, and the sum of a thousand of them, the largest that has 18 digits.
+const LARGEST: u64 = 999_999_999_999_999;
+
+const SUM_OF_1000: u64 = 999_999_999_999_999_000;
+
+// Prints the line of so many bytes in front of the room.
 fn print_front(room: &[u8], size: usize) {
     if size <= room.len() {
         line::print_whole(&room[0..size]);
     }
 }
 
-// The sums of one batch: of 18 digits, of 19 and modulo 10^18, and past 2^64 and modulo 2^64.
-fn print_sums(room: &mut [u8]) {
-    let fits = made::one_batch(1000, 999_999_999_999_999_000, room);
-    print_front(room, fits);
-    let past_18_digits = made::one_batch(1001, 999_999_999_998_999, room);
-    print_front(room, past_18_digits);
-    let past_64_bits = made::one_batch(18447, 255_926_290_429_937, room);
-    print_front(room, past_64_bits);
+// Makes the records of a file, and prints its line.
+fn print_records(plan: Plan, room: &mut [u8]) {
+    let size = made::put_records(plan, room);
+    print_front(room, size);
 }
 
-// An amount of 10^19, with the byte 1A and without.
-fn print_too_large(room: &mut [u8]) {
-    let size = made::ten_batches_and(10000, made::RECORDS_OF_ELEVEN, room);
+// The same of a file that the byte 1A ends.
+fn print_file(plan: Plan, room: &mut [u8]) {
+    let records = made::put_records(plan, room);
+    let size = made::put_end(room, records);
     print_front(room, size);
-    if size > 0 {
-        print_front(room, size - 1);
+}
+
+// One batch of so many payments of the largest amount, with this sum.
+fn one_batch(payments: u32, sum: u64) -> Plan {
+    Plan {
+        batches: 1,
+        payments,
+        amount: LARGEST,
+        sum,
+        last: 0,
+        records: payments as u64 + 4,
     }
 }
 
-// The amounts of a whole file: 10^19 - 1; 10^19, and behind a wrong count; and one past 2^64, which is below 10^19 where it wraps.
-fn print_amounts(room: &mut [u8]) {
-    let fits = made::ten_batches_and(9999, made::RECORDS_OF_ELEVEN, room);
-    print_front(room, fits);
-    print_too_large(room);
-    let miscounted = made::ten_batches_and(10000, made::RECORDS_OF_ELEVEN + 1, room);
-    print_front(room, miscounted);
-    let past_64_bits = made::full_batches(19, room);
-    print_front(room, past_64_bits);
+// Ten batches of a thousand payments of the largest amount, 10^19 - 10000 in all, and an eleventh of one payment.
+fn ten_batches_and(last: u64, records: u64) -> Plan {
+    Plan {
+        batches: 10,
+        payments: 1000,
+        amount: LARGEST,
+        sum: SUM_OF_1000,
+        last,
+        records,
+    }
 }
 
-// The batches of a file: as many as there may be, and one more.
-fn print_batches(room: &mut [u8]) {
-    let fits = made::empty_batches(9998, room);
-    print_front(room, fits);
-    let too_many = made::empty_batches(9999, room);
-    print_front(room, too_many);
+// Nineteen batches of a thousand payments of the largest amount.
+fn nineteen_batches() -> Plan {
+    Plan {
+        batches: 19,
+        payments: 1000,
+        amount: LARGEST,
+        sum: SUM_OF_1000,
+        last: 0,
+        records: 19040,
+    }
+}
+
+// So many batches with no payment.
+fn empty_batches(batches: u32) -> Plan {
+    Plan {
+        batches,
+        payments: 0,
+        amount: 0,
+        sum: 0,
+        last: 0,
+        records: batches as u64 * 2 + 2,
+    }
+}
+
+// The sums of one batch: of 18 digits, of 19 and modulo 10^18, and past 2^64 and modulo 2^64.
+fn print_sums(room: &mut [u8]) {
+    print_file(one_batch(1000, SUM_OF_1000), room);
+    print_file(one_batch(1001, 999_999_999_998_999), room);
+    print_file(one_batch(18447, 255_926_290_429_937), room);
+}
+
+// The amounts of a whole file: 10^19 - 1; and 10^19, with the byte 1A, without, and behind a wrong count.
+fn print_amounts(room: &mut [u8]) {
+    print_file(ten_batches_and(9999, 10025), room);
+    print_file(ten_batches_and(10000, 10025), room);
+    print_records(ten_batches_and(10000, 10025), room);
+    print_file(ten_batches_and(10000, 10026), room);
+}
+
+// Many batches: of an amount past 2^64, which is below 10^19 where it wraps; as many as there may be; and one more.
+fn print_many(room: &mut [u8]) {
+    print_file(nineteen_batches(), room);
+    print_file(empty_batches(9998), room);
+    print_file(empty_batches(9999), room);
 }
 
 fn print_lines(room: &mut [u8]) {
     print_sums(room);
     print_amounts(room);
-    print_batches(room);
+    print_many(room);
 }
 
 // Prints all of them, in room for 9,998 batches with no payment, the longest file here.

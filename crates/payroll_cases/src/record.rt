@@ -1,109 +1,99 @@
-// The records of the files that are made here, each put behind what is made so far. What has no room is left out.
+// The records of the files that are made here: blanks, and numbers at their positions.
+ghost use mathlib.Core.Path.{_≡_};
+ghost use lib.ListN.{length};
+ghost use Rattle.payroll_cases.specs.Record.{digitsOf, withField};
 
-// Puts a byte behind the first `at`, and answers how many are there then.
-fn put(byte: u8, out: &mut [u8], at: usize) -> usize {
-    if at < out.len() {
-        out[at] = byte;
-        return at + 1;
-    }
-    at
+// A number that stands behind the first `first` bytes of a record, up to the `last` one.
+pub struct Field {
+    pub first: usize,
+    pub last: usize,
+    pub number: u64,
 }
 
-pub fn put_text(bytes: &[u8], out: &mut [u8], at: usize) -> usize {
-    let mut end = at;
-    let mut i = 0;
-    while i < bytes.len() {
-        end = put(bytes[i], out, end);
-        i += 1;
-    }
-    end
+// A record of a kind in a batch: its letter, a blank where the kind has none, and up to three numbers.
+pub struct Record {
+    pub kind: u64,
+    pub batch: u64,
+    pub letter: u8,
+    pub one: Field,
+    pub two: Field,
+    pub three: Field,
 }
 
-// Puts a byte so many times.
-fn put_many(byte: u8, count: usize, out: &mut [u8], at: usize) -> usize {
-    let mut end = at;
-    let mut left = count;
+// How many bytes a record takes, with its line end.
+const WIDTH: usize = 242;
+
+// The number of the bank, which every record begins with, before a batch and a kind.
+const BANK: u64 = 42_200_000;
+
+// No number.
+pub const NONE: Field = Field {
+    first: 0,
+    last: 0,
+    number: 0,
+};
+
+// Puts the last digits of a number, with zeros in front.
+fn put_digits(n: u64, field: &mut [u8])
+    ensures { λ _. ⌜ now (field .exit) ≡ digitsOf (length (now (field .entry))) n ⌝ }
+{
+    let mut rest = n;
+    let mut left = field.len();
     while left > 0 {
-        end = put(byte, out, end);
         left -= 1;
+        field[left] = b'0' + (rest % 10) as u8;
+        rest = rest / 10;
     }
-    end
 }
 
-// Puts the zeros in front of so many digits, up to this width.
-fn put_zeros(count: usize, width: usize, out: &mut [u8], at: usize) -> usize {
-    if width <= count {
+// Puts a field's number where the field lies within the bytes.
+fn put_field(field: Field, bytes: &mut [u8])
+    ensures { λ _. ⌜ now (bytes .exit) ≡ withField field (now (bytes .entry)) ⌝ }
+{
+    let first = field.first;
+    let last = field.last;
+    if last < first {
+        return;
+    }
+    if bytes.len() < last {
+        return;
+    }
+    put_digits(field.number, &mut bytes[first..last]);
+}
+
+// Puts the numbers of a record: the bank 1-3, the batch 4-7 and the kind 8 as one, and its own.
+fn put_numbers(what: Record, bytes: &mut [u8]) {
+    let front = Field {
+        first: 0,
+        last: 8,
+        number: BANK + what.batch % 10_000 * 10 + what.kind % 10,
+    };
+    put_field(front, bytes);
+    put_field(what.one, bytes);
+    put_field(what.two, bytes);
+    put_field(what.three, bytes);
+}
+
+// Puts bytes behind the first `at` where there is room for them, and answers how many are there then.
+pub fn put_behind(bytes: &[u8], out: &mut [u8], at: usize) -> usize {
+    let size = bytes.len();
+    if out.len() < size {
         return at;
     }
-    put_many(b'0', width - count, out, at)
+    if out.len() - size < at {
+        return at;
+    }
+    let end = at + size;
+    bytes::copy(bytes, &mut out[at..end]);
+    end
 }
 
-// Puts a number with zeros in front, up to this width.
-fn put_number(n: u64, width: usize, out: &mut [u8], at: usize) -> usize {
-    let mut digits = [0u8; 20];
-    let count = io::decimal(n, &mut digits);
-    let zeros = put_zeros(count, width, out, at);
-    put_text(&digits[..count], out, zeros)
-}
-
-// Puts the bank, and the batch's number.
-fn put_front(batch: u64, out: &mut [u8], at: usize) -> usize {
-    let end = put_text(b"422", out, at);
-    put_number(batch, 4, out, end)
-}
-
-// Puts blanks for the rest of a record, and the line end.
-fn put_rest(blanks: usize, out: &mut [u8], at: usize) -> usize {
-    let end = put_many(b' ', blanks, out, at);
-    put_text(b"\r\n", out, end)
-}
-
-// Puts the file header: 143 is 1, and the date 144-151.
-pub fn put_header(out: &mut [u8], at: usize) -> usize {
-    let front = put_front(0, out, at);
-    let kind = put_text(b"0", out, front);
-    let blank = put_many(b' ', 134, out, kind);
-    let date = put_text(b"115112023", out, blank);
-    put_rest(89, out, date)
-}
-
-pub fn put_batch_header(batch: u64, out: &mut [u8], at: usize) -> usize {
-    let front = put_front(batch, out, at);
-    let kind = put_text(b"1", out, front);
-    put_rest(232, out, kind)
-}
-
-// Puts the front of a segment A: the detail number 9-13, the segment 14.
-fn put_detail(batch: u64, number: u64, out: &mut [u8], at: usize) -> usize {
-    let front = put_front(batch, out, at);
-    let kind = put_text(b"3", out, front);
-    let detail = put_number(number, 5, out, kind);
-    put_text(b"A", out, detail)
-}
-
-// Puts a segment A: the date 94-101, the amount 120-134.
-pub fn put_payment(batch: u64, number: u64, amount: u64, out: &mut [u8], at: usize) -> usize {
-    let detail = put_detail(batch, number, out, at);
-    let blank = put_many(b' ', 79, out, detail);
-    let date = put_text(b"15112023                  ", out, blank);
-    let sum = put_number(amount, 15, out, date);
-    put_rest(106, out, sum)
-}
-
-// Puts a batch trailer: the records of the batch 18-23, the sum of its payments 24-41.
-pub fn put_batch_trailer(batch: u64, records: u64, sum: u64, out: &mut [u8], at: usize) -> usize {
-    let front = put_front(batch, out, at);
-    let kind = put_text(b"5         ", out, front);
-    let count = put_number(records, 6, out, kind);
-    let end = put_number(sum, 18, out, count);
-    put_rest(199, out, end)
-}
-
-// Puts the file trailer: the batches 18-23, all records 24-29.
-pub fn put_trailer(batches: u64, records: u64, out: &mut [u8], at: usize) -> usize {
-    let front = put_front(9999, out, at);
-    let kind = put_text(b"9         ", out, front);
-    let count = put_number(batches, 6, out, kind);
-    let end = put_number(records, 6, out, count);
-    put_rest(211, out, end)
+// Puts a record behind the first `at` bytes: blanks, the letter 14, the numbers, and the line end.
+pub fn put(what: Record, out: &mut [u8], at: usize) -> usize {
+    let mut bytes = [b' '; WIDTH];
+    bytes[13] = what.letter;
+    bytes[240] = b'\r';
+    bytes[241] = b'\n';
+    put_numbers(what, &mut bytes);
+    put_behind(&bytes, out, at)
 }

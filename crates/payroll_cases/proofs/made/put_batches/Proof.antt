@@ -7,10 +7,10 @@ use Rattle.payroll_cases.proofs.made.put_batches.Statement.{statement}
 use Rattle.payroll_cases.proofs.made.put_batches.Tie as tie
 
 abbrev Inv-loop : tie.InvT-loop
-Inv-loop batches payments amount sum out₀ at end₀ batch₀ out end batch = length out ≡ length out₀
+Inv-loop plan out₀ at batches end₀ batch₀ out end batch = length out ≡ length out₀
 
 abbrev μ-loop : tie.MeasureT-loop
-μ-loop batches payments amount sum out₀ at end₀ batch₀ out end batch = batches - batch
+μ-loop plan out₀ at batches end₀ batch₀ out end batch = batches - batch
 
 pub put-batches-spec : {M : Type 1} → statement M
 put-batches-spec =
@@ -18,6 +18,7 @@ put-batches-spec =
     (tie.spec
     Inv-loop
     μ-loop
+    (λ c. search needs)
     (λ c. search needs)
     (λ c. search needs)
     (λ c κs. search needs)

@@ -6,7 +6,10 @@ use Rattle.sheet_cases.proofs.writing.amounts_at.Tie as tie
 
 returns : tie.Need-returns
 unfolding amountsAt
-returns c = cc
+returns c =
+    let gross = c .before .before .number-at .ensures in
+    let discount = c .before .number-at2 .ensures in
+    rw (c .number-at3 .ensures .value, discount .value, gross .value, discount .behind, gross .behind)
 
 pub amounts-at-spec : {M : Type 1} → statement M
 amounts-at-spec = tie.close (tie.spec (λ c κs. search needs) (λ c κs. search needs) (λ c κs. search needs) returns)

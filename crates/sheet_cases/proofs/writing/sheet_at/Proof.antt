@@ -6,7 +6,13 @@ use Rattle.sheet_cases.proofs.writing.sheet_at.Tie as tie
 
 returns : tie.Need-returns
 unfolding sheetAt
-returns c = cc
+returns c =
+    let edition = c .before .before .before .before .number-at .ensures in
+    let date = c .before .before .before .number-at2 .ensures in
+    let movement = c .before .before .number-at3 .ensures in
+    let batches = c .before .number-at4 .ensures in
+    rw (c .totals-at .ensures, batches .value, movement .value, date .value, edition .value)
+    (rw (batches .behind, movement .behind, date .behind, edition .behind))
 
 pub sheet-at-spec : {M : Type 1} → statement M
 sheet-at-spec = tie.close (tie.spec (λ c κs. search needs) (λ c κs. search needs) (λ c κs. search needs) (λ c κs. search needs) (λ c κs. search needs) returns)

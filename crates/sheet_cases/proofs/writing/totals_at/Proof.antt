@@ -6,7 +6,9 @@ use Rattle.sheet_cases.proofs.writing.totals_at.Tie as tie
 
 returns : tie.Need-returns
 unfolding totalsAt
-returns c = cc
+returns c =
+    let sales = c .before .number-at .ensures in
+    rw (c .amounts-at .ensures, sales .value, sales .behind)
 
 pub totals-at-spec : {M : Type 1} → statement M
 totals-at-spec = tie.close (tie.spec (λ c κs. search needs) (λ c κs. search needs) returns)
