@@ -1,7 +1,7 @@
 // Reading cases out of a buffer, at a place: how many bytes stand before it. Numbers are unsigned, high byte first.
 ghost use mathlib.Core.Path.{_≡_};
 ghost use Rattle.totals.specs.Sum.{capped};
-ghost use Rattle.cases.specs.Cursor.{bytesAt, highFirst, NumberAt};
+ghost use Rattle.cases.specs.Cursor.{PartAt, highFirst, NumberAt};
 use crate::print;
 use text::part::part_of;
 use totals::sum::added;
@@ -36,7 +36,7 @@ fn high_first(bytes: &[u8]) -> u64
 
 // So many bytes from a place on, as far as there are any.
 fn bytes_at(cases: &[u8], at: usize, size: u64) -> &[u8]
-    ensures { λ r. ⌜ now r ≡ bytesAt (now (cases .entry)) at size ⌝ }
+    ensures { λ r. ⌜ PartAt (cases .entry) at size r ⌝ }
 {
     let first = added(at as u64, 1) as usize;
     let last = added(at as u64, size) as usize;
@@ -56,7 +56,7 @@ pub fn number_at(cases: &[u8], at: usize, size: u64) -> Number
 impl Number {
     // The part whose length this is: it stands behind it.
     pub fn part(self, cases: &[u8]) -> &[u8]
-        ensures { λ r. ⌜ now r ≡ bytesAt (now (cases .entry)) (self .behind) (self .value) ⌝ }
+        ensures { λ r. ⌜ PartAt (cases .entry) (self .behind) (self .value) r ⌝ }
     {
         bytes_at(cases, self.behind, self.value)
     }
