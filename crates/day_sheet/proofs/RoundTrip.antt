@@ -183,6 +183,13 @@ same-numbers : (l : List ℕ) → getD (numbersIn l) 0 0 ≡ 1 → numbersOf (sh
 unfolding fromPlaces
 same-numbers l v = ap (λ (n : ℕ). n ∷ drop 1 (numbersIn l)) (sym v)
 
+-- a sheet that was read is allowed
+pub read-allowed : (l : List ℕ) (s : Sheet) → readOf l ≡ Read s → sheetAllowed s ≡ true
+unfolding readOf readNumbers
+read-allowed l s e =
+    let w = was-read (isMarked l) (eqb (getD (numbersIn l) 0 0) 1) (numbersRight l) (sheetIn l) s _ _ _ e in
+    ap sheetAllowed (sym (w .3)) ∙ both-right (holdsOnly Digits (dateAndMovement l)) (sheetAllowed (sheetIn l)) (w .2)
+
 -- "a readable sheet is the one we would write"
 pub the-one-we-write : (l : List ℕ) (s : Sheet) → areBytes l ≡ true → readOf l ≡ Read s → (bytesOf s ≡ l) × (sheetAllowed s ≡ true)
 unfolding readOf readNumbers
@@ -201,5 +208,5 @@ the-one-we-write l s b e =
     written-back version1 (drop 3 l) (omega arith) (right-places l b (both-left d ok (w .2))) ∙
     take-all 49 (drop 3 l) (omega arith) in (
       ap bytesOf (sym (w .3)) ∙ ap₂ _++_ (sym mark) numbers ∙ take-append-drop 3 l,
-      ap sheetAllowed (sym (w .3)) ∙ both-right d ok (w .2),
+      read-allowed l s e,
     )

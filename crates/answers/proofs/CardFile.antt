@@ -1,0 +1,69 @@
+-- The contracts of a card file, whole and in chunks, are held to one answer, and rule wrong ones out, by computation.
+use mathlib.Core.Path.{refl}
+use Rattle.refusal.specs.Rules.{firstBroken}
+use Rattle.text.specs.Alphabet.{allowed, holdsOnly}
+use Rattle.text.specs.Number.{valueFrom}
+use Rattle.text.specs.Literal.{sameBytes, hasByte, oneByteOf}
+use Rattle.calendar.specs.Month.{daysIn}
+use Rattle.calendar.specs.Day.{isDay}
+use Rattle.calendar.specs.Time.{isTime}
+use Rattle.calendar.specs.When.{whenRules}
+use Rattle.pan.specs.CardField.{wellFormed}
+use Rattle.card_content.specs.Content.{inSet, contentRules}
+use Rattle.card_content.specs.Field.{plainNumber, tableRules, recordRules}
+use Rattle.card_sale.specs.Cv.{joinedRules}
+use Rattle.card_record.specs.Kind.{kindNamed}
+use Rattle.card_record.specs.Reading.{numbersOf, judgedAs, readFound}
+use Rattle.card_run.specs.Answer.{answerAt}
+use Rattle.card_run.specs.Running.{joinedAt, runRules, behind, settled, tookAt, closedAt}
+use Rattle.lines.specs.Lines.{inFront, cut, joined, endsInCr, withoutLast}
+use Rattle.card_file.specs.CardFile.{unendedAt, linesOf, endOf}
+use Rattle.chunks.specs.Unfinished.{keptWith}
+use Rattle.chunks.specs.Chunks.{heldBefore}
+use Rattle.card_stream.specs.Stream.{behindEnd, withHeld}
+use Rattle.answers.proofs.Observed.{stageRead, answerRead}
+use lib.ListN.{getD}
+use base.Fml.{Lft}
+use Rattle.answers.specs.CardFile.{CardFile}
+use Rattle.answers.proofs.Told.{equal, told}
+
+pub card-file : (κ : Lft) → CardFile κ
+unfolding firstBroken allowed holdsOnly valueFrom sameBytes hasByte oneByteOf daysIn isDay isTime whenRules wellFormed inSet contentRules plainNumber tableRules recordRules joinedRules kindNamed numbersOf judgedAs readFound answerAt joinedAt runRules behind settled tookAt closedAt inFront cut joined endsInCr withoutLast unendedAt linesOf endOf keptWith heldBefore behindEnd withHeld
+card-file κ =
+    record {
+      take-line = λ κs a r r' s s' p q. equal p q;
+      line-without-cr = (refl, told (λ st. stageRead (st .stage)) refl);
+      line-with-cr = (refl, told (λ st. stageRead (st .stage)) refl);
+      no-line-end = λ κs a r r' s s' p q. equal p q;
+      no-line-end-behind-a9 = (refl, told (λ st. stageRead (st .stage)) refl);
+      no-line-end-early = (refl, told (λ st. stageRead (st .stage)) refl);
+      check = λ κs a r r' s s' p q. equal p q;
+      check-refused = (refl, told answerRead refl);
+      check-count = (refl, told answerRead refl);
+      check-one-answer = (refl, told answerRead refl);
+      check-first-record = (refl, told answerRead refl);
+      check-258 = (refl, told answerRead refl);
+      check-version = (refl, told answerRead refl);
+      check-behind-a9 = (refl, told answerRead refl);
+      stream-open = λ κs a r r' s s' p q. equal p q;
+      stream-open-3 = (refl, told (λ s. stageRead (s .state .stage)) refl);
+      stream-open-byte = (refl, told (λ s. s .held .length) refl);
+      stream-take = λ κs a r r' s s' p q. equal p q;
+      stream-take-half = (refl, told (λ s. stageRead (s .state .stage)) refl);
+      stream-take-lost = (refl, told (λ s. s .held .length) refl);
+      stream-end = λ κs a r r' s s' p q. equal p q;
+      stream-end-held = (refl, told (λ s. stageRead (s .state .stage)) refl);
+      stream-end-early = (refl, told (λ s. stageRead (s .state .stage)) refl);
+      stream-answer = λ κs a r r' s s' p q. equal p q;
+      stream-answer-early = (refl, told answerRead refl);
+      stream-answer-behind = (refl, told answerRead refl);
+      unfinished-none = λ κs a r r' s s' p q. equal p q;
+      unfinished-none-byte = (refl, told (λ u. u .length) refl);
+      unfinished-none-whole = (refl, told (λ u. u .length) refl);
+      unfinished-size = λ κs a r r' s s' p q. equal p q;
+      unfinished-size-buffer = (refl, told (λ n. n) refl);
+      unfinished-size-past = (refl, told (λ n. n) refl);
+      followed-by = λ κs a r r' s s' p q. equal p q;
+      followed-forgotten = (refl, told (λ u. u .length) refl);
+      followed-last-lost = (refl, told (λ u. getD (u .bytes) 241 0) refl);
+    }

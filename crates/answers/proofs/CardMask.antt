@@ -1,0 +1,66 @@
+-- The contracts of the masked copy, the field question and a file's day sheet are held to one answer, and rule wrong ones out, by computation.
+use mathlib.Core.Path.{refl}
+use Rattle.refusal.specs.Rules.{firstBroken}
+use Rattle.text.specs.Alphabet.{allowed, holdsOnly}
+use Rattle.text.specs.Number.{valueFrom}
+use Rattle.text.specs.Literal.{sameBytes, hasByte, oneByteOf}
+use Rattle.calendar.specs.Month.{daysIn}
+use Rattle.calendar.specs.Day.{isDay}
+use Rattle.calendar.specs.Time.{isTime}
+use Rattle.calendar.specs.When.{whenRules}
+use Rattle.pan.specs.CardField.{wellFormed}
+use Rattle.card_content.specs.Content.{inSet, contentRules}
+use Rattle.card_content.specs.Field.{plainNumber, tableRules, recordRules}
+use Rattle.card_sale.specs.Cv.{joinedRules}
+use Rattle.card_record.specs.Kind.{kindNamed}
+use Rattle.card_record.specs.Reading.{numbersOf, judgedAs, readFound}
+use Rattle.card_run.specs.Answer.{answerAt}
+use Rattle.card_run.specs.Running.{joinedAt, runRules, behind, settled, tookAt, closedAt}
+use Rattle.lines.specs.Lines.{inFront, cut, joined, endsInCr, withoutLast}
+use Rattle.card_file.specs.CardFile.{unendedAt, linesOf, endOf}
+use lib.ListN.{getD}
+use Rattle.lines.specs.Lines.{rejoined}
+use Rattle.pan.specs.CardField.{leadingZeros}
+use Rattle.pan.specs.HiddenPlaces.{hiddenPlaces}
+use Rattle.pan.specs.Masked.{starWhere}
+use Rattle.card_record.specs.CardPart.{cardPartIn}
+use Rattle.card_mask.specs.Masked.{maskedAt}
+use Rattle.card_mask.specs.Mask.{maskAnswer, maskedInto}
+use Rattle.card_field.specs.Field.{refusalOf, partAs, placeAs}
+use Rattle.day_sheet.specs.Number.{inBase}
+use Rattle.day_sheet.specs.Layout.{inPlaces}
+use Rattle.card_sheet.specs.SheetOf.{sheetAnswer, sheetInto}
+use Rattle.answers.proofs.Observed.{answerRead, fieldRead}
+use base.Fml.{Lft}
+use Rattle.answers.specs.CardMask.{CardMask}
+use Rattle.answers.proofs.Told.{equal, told, same-part}
+
+pub card-mask : (κ : Lft) → CardMask κ
+unfolding firstBroken allowed holdsOnly valueFrom sameBytes hasByte oneByteOf daysIn isDay isTime whenRules wellFormed inSet contentRules plainNumber tableRules recordRules joinedRules kindNamed numbersOf judgedAs readFound answerAt joinedAt runRules behind settled tookAt closedAt inFront cut joined endsInCr withoutLast unendedAt linesOf endOf rejoined leadingZeros hiddenPlaces starWhere cardPartIn maskedAt maskAnswer maskedInto refusalOf partAs placeAs inBase inPlaces sheetAnswer sheetInto
+card-mask κ =
+    record {
+      mask-lines = λ κs a r r' s s' p q. (equal (p .counts) (q .counts), equal (p .leaves) (q .leaves));
+      lines-unfinished = (record { counts = refl; leaves = refl }, λ p. told (λ n. n) refl (p .counts));
+      lines-unmasked = (record { counts = refl; leaves = refl }, λ p. told (λ s. getD s 96 0) refl (p .leaves));
+      mask = λ κs a r r' s s' p q. (equal (p .answers) (q .answers), equal (p .leaves) (q .leaves));
+      mask-none = (record { answers = refl; leaves = refl }, λ p. told (λ s. getD s 193 0) refl (p .leaves));
+      mask-refused = (record { answers = refl; leaves = refl }, λ p. told (λ s. getD s 0 0) refl (p .leaves));
+      mask-short = (record { answers = refl; leaves = refl }, λ p. told (λ s. getD s 0 0) refl (p .leaves));
+      mask-order = (record { answers = refl; leaves = refl }, λ p. told answerRead refl (p .answers));
+      field-answer = λ κs a r r' s s' p q. equal p q;
+      field-card = (refl, told fieldRead refl);
+      field-longer = (refl, told fieldRead refl);
+      field-order = (refl, told fieldRead refl);
+      field = λ κs a r r' s s' p q. same-part p q;
+      field-is-card = (record { holds = refl; block = refl; begins = refl }, λ p. told (λ n. n) refl (p .begins));
+      field-behind = (record { holds = refl; block = refl; begins = refl }, λ p. told (λ n. n) refl (p .begins));
+      field-elsewhere = (record { holds = refl; block = refl; begins = refl }, λ p. told (λ n. n) refl (p .begins));
+      sheet-from = λ κs a r r' s s' p q. equal p q;
+      sheet-edition = (refl, told (λ s. s .edition) refl);
+      sheet-records = (refl, told (λ s. s .batches) refl);
+      sheet-of = λ κs a r r' s s' p q. (equal (p .answers) (q .answers), equal (p .leaves) (q .leaves));
+      sheet-of-edition = (record { answers = refl; leaves = refl }, λ p. told (λ s. getD s 5 0) refl (p .leaves));
+      sheet-of-past = (record { answers = refl; leaves = refl }, λ p. told (λ s. getD s 52 0) refl (p .leaves));
+      sheet-of-refused = (record { answers = refl; leaves = refl }, λ p. told (λ s. getD s 0 0) refl (p .leaves));
+      sheet-of-short = (record { answers = refl; leaves = refl }, λ p. told answerRead refl (p .answers));
+    }

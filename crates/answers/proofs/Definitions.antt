@@ -1,0 +1,70 @@
+-- What the definitions rule out: what a file keeps is what the check accepts, which is computed; the others are computed as they stand.
+use mathlib.Core.Path.{refl}
+use lib.Dec.{lit<}
+use Rattle.refusal.specs.Rules.{firstBroken}
+use Rattle.text.specs.Alphabet.{allowed, holdsOnly, firstStray}
+use Rattle.text.specs.Number.{valueFrom}
+use Rattle.text.specs.Literal.{sameBytes, hasByte, oneByteOf}
+use Rattle.calendar.specs.Month.{daysIn}
+use Rattle.calendar.specs.Day.{isDay}
+use Rattle.calendar.specs.Time.{isTime}
+use Rattle.calendar.specs.When.{whenRules}
+use Rattle.pan.specs.CardField.{wellFormed, leadingZeros}
+use Rattle.pan.specs.HiddenPlaces.{hiddenPlaces}
+use Rattle.lines.specs.Lines.{inFront, cut, joined, endsInCr, withoutLast}
+use Rattle.card_content.specs.Content.{inSet, contentRules}
+use Rattle.card_content.specs.Field.{plainNumber, tableRules, recordRules}
+use Rattle.card_sale.specs.Cv.{joinedRules}
+use Rattle.card_record.specs.CardPart.{cardPartIn}
+use Rattle.card_record.specs.Kind.{kindNamed}
+use Rattle.card_record.specs.Reading.{numbersOf, judgedAs, readFound}
+use Rattle.card_run.specs.Answer.{answerAt, rowOf}
+use Rattle.card_run.specs.Running.{joinedAt, runRules, behind, settled, tookAt, closedAt}
+use Rattle.card_file.specs.CardFile.{unendedAt, linesOf, endOf}
+use Rattle.card_kept.proofs.KeptMeansKept.{kept-means-kept}
+use Rattle.payroll_record.specs.Field.{numberRules}
+use Rattle.payroll_record.specs.Front.{strayAt}
+use Rattle.payroll_record.specs.Kind.{segmentNamed, kindNamed as payrollKindNamed}
+use Rattle.payroll_record.specs.Reading.{readAs, readFound as payrollReadFound}
+use Rattle.payroll_file.specs.Running.{
+  foundRules,
+  runRules as payrollRunRules,
+  behindDetailAs,
+  behind as payrollBehind,
+  settled as payrollSettled,
+  tookAt as payrollTookAt,
+}
+use Rattle.payroll_file.specs.PayrollFile.{
+  unendedAt as payrollUnendedAt,
+  linesOf as payrollLinesOf,
+  endedOf,
+  cutShortOf,
+  endAt,
+}
+use Rattle.payroll_kept.proofs.KeptMeansKept as payroll-law
+use Rattle.demands.specs.FirstFault.{isAccepted}
+use Rattle.demands.specs.HiddenDigits.{hiddenAt, hiddenInPieces}
+use Rattle.demands.specs.LentBuffers.{AllZero}
+use Rattle.answers.specs.Definitions.{Definitions}
+use Rattle.answers.proofs.Told.{told, bit}
+use Rattle.answers.proofs.Observed.{payrollAnswerRead}
+
+pub definitions : Definitions
+unfolding firstBroken allowed holdsOnly firstStray valueFrom sameBytes hasByte oneByteOf daysIn isDay isTime whenRules wellFormed leadingZeros hiddenPlaces inFront cut joined endsInCr withoutLast inSet contentRules plainNumber tableRules recordRules joinedRules cardPartIn kindNamed numbersOf judgedAs readFound answerAt rowOf joinedAt runRules behind settled tookAt closedAt unendedAt linesOf endOf numberRules strayAt segmentNamed payrollKindNamed readAs payrollReadFound foundRules payrollRunRules behindDetailAs payrollBehind payrollSettled payrollTookAt payrollUnendedAt payrollLinesOf endedOf cutShortOf endAt hiddenAt hiddenInPieces AllZero
+definitions =
+    record {
+      kept-other-card = kept-means-kept 2 _ .0 (record { numbers = _; answer = refl });
+      kept-first-instalment = kept-means-kept 2 _ .0 (record { numbers = _; answer = refl });
+      kept-disagreeing = λ kept. told (λ a. bit (isAccepted a)) refl (kept-means-kept 2 _ .1 kept .answer);
+      kept-by-net = λ kept. told (λ a. bit (isAccepted a)) refl (kept-means-kept 2 _ .1 kept .answer);
+      kept-payroll = payroll-law.kept-means-kept _ .0 (record { numbers = _; answer = refl });
+      kept-z = λ kept. told payrollAnswerRead refl (payroll-law.kept-means-kept _ .1 kept .answer);
+      kept-not-itself = λ kept. told payrollAnswerRead refl (payroll-law.kept-means-kept _ .1 kept .answer);
+      hidden-from = (refl, refl);
+      hidden-to = (refl, refl);
+      twins-open-digit = λ twins. told (λ n. n) refl (twins .same-byte 202 (lit< tt) refl);
+      rules-place-first = refl;
+      refused-at-once = refl;
+      refused-not-before = refl;
+      accepted-not-alone = λ alone. told (λ n. n) refl (alone .counts .0);
+    }

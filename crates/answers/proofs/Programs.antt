@@ -1,0 +1,114 @@
+-- The contracts of the programs' libraries rule wrong answers out: an answer is that of some bytes, and the laws of every answer hold of it.
+use Prim.Native.Nat.{ℕ, zero, suc}
+use mathlib.Core.Path.{_≡_, refl, sym, _∙_}
+use mathlib.Core.Bool.{true}
+use mathlib.Core.List.{List, []}
+use native.Mathlib.Omega.{arith}
+use lib.IntN.{ℤ}
+use lib.ListN.{take}
+use borrow.Author.Tests.{lt-ltb}
+use base.Fml.{Lft}
+use Rattle.refusal.specs.Rules.{firstBroken}
+use Rattle.text.specs.Alphabet.{allowed, holdsOnly, firstStray}
+use Rattle.text.specs.Number.{valueFrom}
+use Rattle.text.specs.Literal.{ascii, sameBytes, hasByte, oneByteOf}
+use Rattle.calendar.specs.Month.{daysIn}
+use Rattle.calendar.specs.Day.{isDay}
+use Rattle.calendar.specs.Time.{isTime}
+use Rattle.calendar.specs.When.{whenRules}
+use Rattle.pan.specs.CardField.{wellFormed}
+use Rattle.lines.specs.Lines.{inFront, cut, joined, endsInCr, withoutLast}
+use Rattle.edition.specs.Edition.{editionOf}
+use Rattle.edition.specs.declared.Edition.the-variants.{NoNumber}
+use Rattle.card_content.specs.Content.{inSet, contentRules}
+use Rattle.card_content.specs.Field.{plainNumber, tableRules, recordRules}
+use Rattle.card_sale.specs.Cv.{joinedRules}
+use Rattle.card_record.specs.Kind.{kindNamed}
+use Rattle.card_record.specs.Reading.{numbersOf, judgedAs, readFound}
+use Rattle.card_run.specs.Answer.{answerAt}
+use Rattle.card_run.specs.Running.{joinedAt, runRules, behind, settled, tookAt, closedAt}
+use Rattle.card_file.specs.CardFile.{unendedAt, linesOf, endOf, checkOf}
+use Rattle.card_kept.proofs.KeptMeansKept.{kept-means-kept, plain-numbers}
+use Rattle.payroll_record.specs.Field.{numberRules}
+use Rattle.payroll_record.specs.Front.{strayAt}
+use Rattle.payroll_record.specs.Kind.{segmentNamed, kindNamed as payrollKindNamed}
+use Rattle.payroll_record.specs.Reading.{readAs, readFound as payrollReadFound}
+use Rattle.payroll_file.specs.Running.{
+  foundRules,
+  runRules as payrollRunRules,
+  behindDetailAs,
+  behind as payrollBehind,
+  settled as payrollSettled,
+  tookAt as payrollTookAt,
+}
+use Rattle.payroll_file.specs.PayrollFile.{linesOf as payrollLinesOf, endedOf, endAt, checkOf as payrollCheckOf}
+use Rattle.payroll_file.specs.declared.answer.Accepted.{Accepted as PayrollNumbers}
+use Rattle.payroll_file.specs.declared.answer.PayrollAnswer.the-variants.{Accepted as accepted-payroll}
+use Rattle.payroll_kept.specs.Numbers.{Numbers}
+use Rattle.payroll_kept.proofs.KeptMeansKept as payroll
+use Rattle.day_sheet.specs.Number.{inBase, valueIn}
+use Rattle.day_sheet.specs.Layout.{bytesOf, inPlaces, fromPlaces}
+use Rattle.day_sheet.specs.Sheet.{totalsAllowed, sheetAllowed}
+use Rattle.day_sheet.specs.Reading.{readNumbers, readOf}
+use Rattle.day_sheet.proofs.RoundTrip.{read-allowed}
+use Rattle.demands.proofs.FirstFault.{edition-first}
+use Rattle.answers.specs.DaySheet.{sheetOf}
+use Rattle.answers.specs.CardRun.{oneSale, accepted}
+use Rattle.answers.specs.Programs.{Programs, madeUp}
+use Rattle.answers.specs.Samples.{cardFile, payrollFile}
+use Rattle.answers.proofs.Told.{equal, told, bit}
+use Rattle.answers.proofs.Observed.{answerRead, editionRead, outcomeRead}
+
+-- no bytes of a text without a digit state an edition
+stated : (n : ℕ) → editionOf (take n (ascii ".")) ≡ NoNumber
+unfolding allowed holdsOnly
+stated zero = refl
+stated (suc zero) = refl
+stated (suc (suc n)) = refl
+
+-- no file has totals that disagree
+disagreeing : (bytes : List ℕ) → madeUp ≡ checkOf 2 bytes → ⊥
+disagreeing bytes e =
+    let kept = kept-means-kept 2 bytes .0 (record { numbers = _; answer = sym e }) in
+    told (λ n. n) refl (plain-numbers 2 bytes _ (sym e) kept .agree)
+
+-- under edition 3 no file is accepted
+of-edition-3 : (bytes : List ℕ) → accepted 5 1 oneSale ≡ checkOf 3 bytes → ⊥
+of-edition-3 bytes e = told answerRead refl (e ∙ edition-first 3 (told (λ n. n) refl) (told (λ n. n) refl) bytes)
+
+-- the numbers of every accepted payroll file are the plain ones of its records
+plain : (bytes : List ℕ) (a : PayrollNumbers) (e : accepted-payroll a ≡ payrollCheckOf bytes) →
+    Numbers (payroll.kept-means-kept bytes .0 (record { numbers = a; answer = sym e }) .file) a
+plain bytes a e = payroll.plain-numbers bytes a (sym e) (payroll.kept-means-kept bytes .0 (record { numbers = a; answer = sym e }))
+
+pub programs : (κ : Lft) (fd : ℤ) → Programs κ fd
+unfolding firstBroken allowed holdsOnly firstStray valueFrom sameBytes hasByte oneByteOf daysIn isDay isTime whenRules wellFormed inFront cut joined endsInCr withoutLast inSet contentRules plainNumber tableRules recordRules joinedRules kindNamed numbersOf judgedAs readFound answerAt joinedAt runRules behind settled tookAt closedAt unendedAt linesOf endOf numberRules strayAt segmentNamed payrollKindNamed readAs payrollReadFound foundRules payrollRunRules behindDetailAs payrollBehind payrollSettled payrollTookAt payrollLinesOf endedOf endAt inBase valueIn inPlaces fromPlaces totalsAllowed sheetAllowed readNumbers readOf
+programs κ fd =
+    record {
+      read-some-room = ((omega arith, omega arith), λ p. omega arith);
+      read-some-none = (tt, λ p. omega arith);
+      read-all-room = (omega arith, λ p. omega arith);
+      edition-at-stated = (record { size = 1; within = omega arith; states = refl }, λ p. told editionRead refl (p .states ∙ stated (p .size)));
+      decided = λ κs a r r' s s' p q. equal p q;
+      decided-going-on = (refl, told bit refl);
+      decided-refused = (refl, told bit refl);
+      accepts = λ κs a r r' s s' p q. equal p q;
+      accepts-refused = (refl, told bit refl);
+      accepts-mistake = (refl, told bit refl);
+      check-totals = ((cardFile, refl), λ p. disagreeing (p .0) (p .1));
+      check-edition = (([], refl), λ p. of-edition-3 (p .0) (p .1));
+      mask-totals = ((cardFile, refl), λ p. disagreeing (p .0) (p .1));
+      mask-edition = (([], refl), λ p. of-edition-3 (p .0) (p .1));
+      write-totals = ((cardFile, refl), λ p. disagreeing (p .0) (p .1));
+      write-edition = (([], refl), λ p. of-edition-3 (p .0) (p .1));
+      sheet-edition = ((bytesOf (sheetOf 2 9750), refl), λ p. told bit refl (read-allowed (p .0) _ (sym (p .1))));
+      sheet-amounts = ((bytesOf (sheetOf 2 9750), refl), λ p. told bit refl (read-allowed (p .0) _ (sym (p .1))));
+      decided-payroll = λ κs a r r' s s' p q. equal p q;
+      decided-payroll-going-on = (refl, told bit refl);
+      decided-payroll-refused = (refl, told bit refl);
+      outcome-of = λ κs a r r' s s' p q. equal p q;
+      outcome-going-on = (refl, told outcomeRead refl);
+      outcome-refused = (refl, told outcomeRead refl);
+      check-amount = ((payrollFile, refl), λ p. told bit refl (lt-ltb _ _ (plain (p .0) _ (p .1) .amount-below)));
+      check-records = ((payrollFile, refl), λ p. told bit refl (lt-ltb _ _ (plain (p .0) _ (p .1) .records-below)));
+    }

@@ -1,0 +1,83 @@
+-- What the contracts of a card file, whole and in chunks, are held to. Behind a function's name: the wrong programs that are ruled out.
+use Prim.Native.Nat.{ℕ}
+use mathlib.Core.List.{List, [], _++_}
+use lib.ListN.{take, drop, replicate}
+use Rattle.text.specs.Literal.{ascii}
+use Rattle.refusal.specs.declared.Cause.the-variants.{EditionUnknown, NoLineEnd, ValueNotAllowed, SequenceWrong, EndsTooEarly, BytesAfterTheEnd}
+use Rattle.chunks.specs.Unfinished.{holding}
+use Rattle.chunks.specs.declared.Unfinished.{Unfinished}
+use Rattle.card_run.specs.declared.stage.Stage.the-variants.{Start, InBatch, Ended, Closed, Refused}
+use Rattle.card_run.specs.declared.running.Running.{Running}
+use Rattle.card_run.specs.declared.answer.CardAnswer.the-variants.{GoingOn, Refused as refused}
+use Rattle.card_stream.specs.declared.Stream.{Stream}
+use Rattle.answers.specs.Totals.{amounts, totalsOf}
+use Rattle.answers.specs.CardRun.{state, refusal, noSale, oneSale, accepted, opened}
+use Rattle.answers.specs.Samples.{at, sale, cardFile, cardFileOf}
+use base.Fml.{Lft}
+use Rattle.card_file.proofs.take_line.Reads as TakeLine
+use Rattle.card_file.proofs.no_line_end.Reads as NoLineEndOf
+use Rattle.card_file.proofs.check.Reads as Check
+use Rattle.card_stream.proofs.Stream.open.Reads as StreamOpen
+use Rattle.card_stream.proofs.Stream.take.Reads as StreamTake
+use Rattle.card_stream.proofs.Stream.end.Reads as StreamEnd
+use Rattle.card_stream.proofs.Stream.answer.Reads as StreamAnswer
+use Rattle.chunks.proofs.Unfinished.none.Reads as UnfinishedNone
+use Rattle.chunks.proofs.Unfinished.size.Reads as UnfinishedSize
+use Rattle.chunks.proofs.Unfinished.followed_by.Reads as FollowedBy
+use Rattle.answers.specs.Held.{OneAnswer, Tells, lent, one}
+
+-- a stream at a state, with an unfinished record
+abbrev stream : Running → List ℕ → Stream
+stream st held = record { state = st; held = holding held }
+
+-- a length past the buffer, which stands for all of it
+abbrev tooLong : Unfinished
+tooLong = record { bytes = replicate 242 65; length = 300 }
+
+pub record CardFile (κ : Lft) : Type 0 where
+  -- `take_line`: a piece without CR taken for a record; the CR taken for a part of the record
+  pub take-line : OneAnswer TakeLine.Post
+  pub line-without-cr : Tells (TakeLine.Post (one κ)) (state InBatch 2 noSale, (lent sale, tt)) (state (Refused (refusal NoLineEnd 3 0)) 2 noSale) (state InBatch 3 oneSale)
+  pub line-with-cr : Tells (TakeLine.Post (one κ)) (state InBatch 2 noSale, (lent (at 200 "\r" sale), tt)) (state InBatch 3 oneSale) (state (Refused (refusal NoLineEnd 3 0)) 2 noSale)
+  -- `no_line_end`: 3 before 13; 12 for bytes without a line end
+  pub no-line-end : OneAnswer NoLineEndOf.Post
+  pub no-line-end-behind-a9 : Tells (NoLineEndOf.Post tt) (state Ended 5 oneSale, tt) (state (Refused (refusal BytesAfterTheEnd 6 0)) 5 oneSale) (state (Refused (refusal NoLineEnd 6 0)) 5 oneSale)
+  pub no-line-end-early : Tells (NoLineEndOf.Post tt) (state InBatch 3 oneSale, tt) (state (Refused (refusal NoLineEnd 4 0)) 3 oneSale) (state (Refused (refusal EndsTooEarly 4 0)) 3 oneSale)
+  -- `check`: every file refused; a made-up count; one accepted answer for all files
+  pub check : OneAnswer Check.Post
+  pub check-refused : Tells (Check.Post (one κ)) (2, (lent cardFile, tt)) (accepted 5 1 oneSale) (refused (refusal EndsTooEarly 6 0))
+  pub check-count : Tells (Check.Post (one κ)) (2, (lent cardFile, tt)) (accepted 5 1 oneSale) (accepted 5 1 (totalsOf 2 (amounts 10000 250 9750)))
+  pub check-one-answer : Tells (Check.Post (one κ)) (2, (lent [], tt)) (refused (refusal EndsTooEarly 1 0)) (accepted 5 1 oneSale)
+  -- a look at the first record alone; an edition cut down to a byte; the edition by the version string; what stands behind A9 passed over
+  pub check-first-record : Tells (Check.Post (one κ)) (2, (lent (cardFileOf (at 194 "000004" sale)), tt)) (refused (refusal SequenceWrong 3 194)) (accepted 5 1 oneSale)
+  pub check-258 : Tells (Check.Post (one κ)) (258, (lent cardFile, tt)) (refused (refusal EditionUnknown 0 0)) (accepted 5 1 oneSale)
+  pub check-version : Tells (Check.Post (one κ)) (1, (lent (cardFileOf (at 54 "7" sale)), tt)) (refused (refusal ValueNotAllowed 3 54)) (accepted 5 1 oneSale)
+  pub check-behind-a9 : Tells (Check.Post (one κ)) (2, (lent (cardFile ++ ascii "\n"), tt)) (refused (refusal BytesAfterTheEnd 6 0)) (accepted 5 1 oneSale)
+  -- `Stream::open`: always edition 2; a byte that has not come
+  pub stream-open : OneAnswer StreamOpen.Post
+  pub stream-open-3 : Tells (StreamOpen.Post tt) (3, tt) (stream (opened (Refused (refusal EditionUnknown 0 0)) 3) []) (stream (opened Start 3) [])
+  pub stream-open-byte : Tells (StreamOpen.Post tt) (2, tt) (stream (opened Start 2) []) (stream (opened Start 2) (ascii " "))
+  -- `Stream::take`: a record cut in two judged by its second half; what comes behind the LF lost
+  pub stream-take : OneAnswer StreamTake.Post
+  pub stream-take-half : Tells (StreamTake.Post (one κ)) (stream (state InBatch 2 noSale) (take 100 sale), (lent (drop 100 sale ++ ascii "\r\n"), tt)) (stream (state InBatch 3 oneSale) []) (stream (state (Refused (refusal NoLineEnd 3 0)) 2 noSale) [])
+  pub stream-take-lost : Tells (StreamTake.Post (one κ)) (stream (state InBatch 2 noSale) [], (lent (sale ++ ascii "\r\nL9"), tt)) (stream (state InBatch 3 oneSale) (ascii "L9")) (stream (state InBatch 3 oneSale) [])
+  -- `Stream::end`: an unfinished record let go; a file that ends too early accepted
+  pub stream-end : OneAnswer StreamEnd.Post
+  pub stream-end-held : Tells (StreamEnd.Post tt) (stream (state Ended 5 oneSale) (ascii "x"), tt) (stream (state (Refused (refusal BytesAfterTheEnd 6 0)) 5 oneSale) []) (stream (state Closed 5 oneSale) [])
+  pub stream-end-early : Tells (StreamEnd.Post tt) (stream (state InBatch 3 oneSale) [], tt) (stream (state (Refused (refusal EndsTooEarly 4 0)) 3 oneSale) []) (stream (state Closed 3 oneSale) [])
+  -- `Stream::answer`: accepted before the end; accepted though a byte came behind the end
+  pub stream-answer : OneAnswer StreamAnswer.Post
+  pub stream-answer-early : Tells (StreamAnswer.Post tt) (stream (state Ended 5 oneSale) [], tt) GoingOn (accepted 5 0 oneSale)
+  pub stream-answer-behind : Tells (StreamAnswer.Post tt) (stream (state Closed 5 oneSale) (ascii "x"), tt) (refused (refusal BytesAfterTheEnd 6 0)) (accepted 5 0 oneSale)
+  -- `Unfinished::none`: a byte that has not come; a length of the whole buffer
+  pub unfinished-none : OneAnswer UnfinishedNone.Post
+  pub unfinished-none-byte : Tells (UnfinishedNone.Post tt) tt (holding []) (holding (ascii " "))
+  pub unfinished-none-whole : Tells (UnfinishedNone.Post tt) tt (holding []) (holding (replicate 242 0))
+  -- `Unfinished::size`: the buffer's own length; a length past the buffer
+  pub unfinished-size : OneAnswer UnfinishedSize.Post
+  pub unfinished-size-buffer : Tells (UnfinishedSize.Post tt) (holding (ascii "CV"), tt) 2 242
+  pub unfinished-size-past : Tells (UnfinishedSize.Post tt) (tooLong, tt) 242 300
+  -- `Unfinished::followed_by`: what was held forgotten; the last byte of a long piece lost
+  pub followed-by : OneAnswer FollowedBy.Post
+  pub followed-forgotten : Tells (FollowedBy.Post (one κ)) (holding (ascii "C"), (lent (ascii "V"), tt)) (holding (ascii "CV")) (holding (ascii "V"))
+  pub followed-last-lost : Tells (FollowedBy.Post (one κ)) (holding (replicate 242 65), (lent (ascii "\r"), tt)) (holding (replicate 241 65 ++ ascii "\r")) (holding (replicate 242 65))

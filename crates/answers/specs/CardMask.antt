@@ -1,0 +1,100 @@
+-- What the contracts of the masked copy, the field question and a file's day sheet are held to. Behind a function's name: the wrong programs that are ruled out.
+use Prim.Native.Nat.{ℕ}
+use mathlib.Core.List.{List, [], _++_}
+use lib.ListN.{length, take, replicate}
+use denote.Ref.{now}
+use Rattle.text.specs.Literal.{ascii}
+use Rattle.refusal.specs.declared.Cause.the-variants.{EditionUnknown, OutputTooShort, SequenceWrong, KindUnknown, WrongWidth, FieldNotOffered}
+use Rattle.card_run.specs.declared.answer.CardAnswer.the-variants.{Refused}
+use Rattle.card_field.specs.declared.FieldAnswer.the-variants.{Offered, Refused as notOffered}
+use Rattle.day_sheet.specs.declared.sheet.Sheet.{Sheet}
+use Rattle.day_sheet.specs.Layout.{bytesOf}
+use Rattle.answers.specs.CardRun.{refusal, oneSale, accepted}
+use Rattle.answers.specs.Samples.{at, sale, cardFile, cardFileOf}
+use Rattle.card_run.specs.declared.answer.Accepted.{Accepted}
+use base.Fml.{Lft}
+use Rattle.card_mask.proofs.mask_lines.Reads as MaskLines
+use Rattle.card_mask.proofs.mask.Reads as Mask
+use Rattle.card_field.proofs.field_answer.Reads as FieldAnswer
+use Rattle.card_field.proofs.field.Reads as Field
+use Rattle.card_sheet.proofs.sheet_from.Reads as SheetFrom
+use Rattle.card_sheet.proofs.sheet_of.Reads as SheetOf
+use Rattle.answers.specs.Held.{OneAnswer, OnePart, OneOutcome, Tells, TellsOutcome, lent, part, one, two}
+
+-- document 01's example with its card masked
+abbrev maskedSale : List ℕ
+maskedSale = at 88 "000123456******3456" sale
+
+-- the example's day sheet under an edition
+abbrev daySheet : ℕ → Sheet
+daySheet edition = record { edition = edition; date = 20240229; movement = 1; batches = 1; totals = oneSale }
+
+-- an output of so many bytes
+abbrev room : ℕ → List ℕ
+room size = replicate size 46
+
+-- the example's numbers
+abbrev numbers : Accepted
+numbers = record { date = 20240229; movement = 1; records = 5; batches = 1; totals = oneSale }
+
+pub record CardMask (κ : Lft) : Type 0 where
+  -- `mask_lines`: the unfinished record counted; nothing masked
+  pub mask-lines : OneOutcome (λ κs s. now (s .0)) MaskLines.Post
+  pub lines-unfinished :
+      TellsOutcome (MaskLines.Post (one κ)) (lent (sale ++ ascii "\r\nCV"), tt)
+      (record { answer = 201; exit = (lent (maskedSale ++ ascii "\r\nCV"), tt) })
+      (record { answer = 203; exit = (lent (maskedSale ++ ascii "\r\nCV"), tt) })
+  pub lines-unmasked :
+      TellsOutcome (MaskLines.Post (one κ)) (lent (sale ++ ascii "\r\n"), tt)
+      (record { answer = 201; exit = (lent (maskedSale ++ ascii "\r\n"), tt) })
+      (record { answer = 201; exit = (lent (sale ++ ascii "\r\n"), tt) })
+  -- `mask`: no masking; a refused file's output written; a shorter output filled as far as it goes; 2 before 1
+  pub mask : OneOutcome (λ κs s. now (s .1 .1 .0)) Mask.Post
+  pub mask-none :
+      TellsOutcome (Mask.Post (two κ)) (2, (lent cardFile, (lent (room (length cardFile)), tt)))
+      (record { answer = accepted 5 1 oneSale; exit = (2, (lent cardFile, (lent (cardFileOf maskedSale), tt))) })
+      (record { answer = accepted 5 1 oneSale; exit = (2, (lent cardFile, (lent cardFile, tt))) })
+  pub mask-refused :
+      TellsOutcome (Mask.Post (two κ)) (2, (lent (cardFileOf (at 194 "000004" sale)), (lent (room (length cardFile)), tt)))
+      (record { answer = Refused (refusal SequenceWrong 3 194); exit = (2, (lent (cardFileOf (at 194 "000004" sale)), (lent (room (length cardFile)), tt))) })
+      (record { answer = Refused (refusal SequenceWrong 3 194); exit = (2, (lent (cardFileOf (at 194 "000004" sale)), (lent (cardFileOf maskedSale), tt))) })
+  pub mask-short :
+      TellsOutcome (Mask.Post (two κ)) (2, (lent cardFile, (lent (room 201), tt)))
+      (record { answer = Refused (refusal OutputTooShort 0 0); exit = (2, (lent cardFile, (lent (room 201), tt))) })
+      (record { answer = Refused (refusal OutputTooShort 0 0); exit = (2, (lent cardFile, (lent (take 201 cardFile), tt))) })
+  pub mask-order :
+      TellsOutcome (Mask.Post (two κ)) (3, (lent cardFile, (lent (room 201), tt)))
+      (record { answer = Refused (refusal EditionUnknown 0 0); exit = (3, (lent cardFile, (lent (room 201), tt))) })
+      (record { answer = Refused (refusal OutputTooShort 0 0); exit = (3, (lent cardFile, (lent (room 201), tt))) })
+  -- `field_answer`: the card offered; a longer record taken; 14 before 4
+  pub field-answer : OneAnswer FieldAnswer.Post
+  pub field-card : Tells (FieldAnswer.Post (one κ)) (lent sale, (13, tt)) (notOffered (refusal FieldNotOffered 0 0)) Offered
+  pub field-longer : Tells (FieldAnswer.Post (one κ)) (lent (at 200 "0" sale), (1, tt)) (notOffered (refusal WrongWidth 1 0)) Offered
+  pub field-order : Tells (FieldAnswer.Post (one κ)) (lent (ascii "L0"), (13, tt)) (notOffered (refusal KindUnknown 1 1)) (notOffered (refusal FieldNotOffered 0 0))
+  -- `field`: the card handed back; the field behind it; other bytes with the same content
+  pub field : OnePart Field.Post
+  pub field-is-card : Tells (Field.Post (one κ)) (lent sale, (13, tt)) (part 0 []) (part 87 (ascii "0001234567890123456"))
+  pub field-behind : Tells (Field.Post (one κ)) (lent sale, (12, tt)) (part 76 (ascii "00000009750")) (part 87 (ascii "0001234567890123456"))
+  pub field-elsewhere : Tells (Field.Post (one κ)) (lent sale, (14, tt)) (part 106 (ascii "00")) (part 108 (ascii "00"))
+  -- `sheet_from`: always edition 2; the records for the batches
+  pub sheet-from : OneAnswer SheetFrom.Post
+  pub sheet-edition : Tells (SheetFrom.Post tt) (1, (numbers, tt)) (daySheet 1) (daySheet 2)
+  pub sheet-records : Tells (SheetFrom.Post tt) (2, (numbers, tt)) (daySheet 2) (record { edition = 2; date = 20240229; movement = 1; batches = 5; totals = oneSale })
+  -- `sheet_of`: another edition in the sheet; a byte past 52 changed; a refused file's output written; 51 bytes enough
+  pub sheet-of : OneOutcome (λ κs s. now (s .1 .1 .0)) SheetOf.Post
+  pub sheet-of-edition :
+      TellsOutcome (SheetOf.Post (two κ)) (1, (lent cardFile, (lent (room 52), tt)))
+      (record { answer = accepted 5 1 oneSale; exit = (1, (lent cardFile, (lent (bytesOf (daySheet 1)), tt))) })
+      (record { answer = accepted 5 1 oneSale; exit = (1, (lent cardFile, (lent (bytesOf (daySheet 2)), tt))) })
+  pub sheet-of-past :
+      TellsOutcome (SheetOf.Post (two κ)) (2, (lent cardFile, (lent (room 53), tt)))
+      (record { answer = accepted 5 1 oneSale; exit = (2, (lent cardFile, (lent (bytesOf (daySheet 2) ++ room 1), tt))) })
+      (record { answer = accepted 5 1 oneSale; exit = (2, (lent cardFile, (lent (bytesOf (daySheet 2) ++ ascii "\n"), tt))) })
+  pub sheet-of-refused :
+      TellsOutcome (SheetOf.Post (two κ)) (2, (lent (cardFileOf (at 194 "000004" sale)), (lent (room 52), tt)))
+      (record { answer = Refused (refusal SequenceWrong 3 194); exit = (2, (lent (cardFileOf (at 194 "000004" sale)), (lent (room 52), tt))) })
+      (record { answer = Refused (refusal SequenceWrong 3 194); exit = (2, (lent (cardFileOf (at 194 "000004" sale)), (lent (bytesOf (daySheet 2)), tt))) })
+  pub sheet-of-short :
+      TellsOutcome (SheetOf.Post (two κ)) (2, (lent cardFile, (lent (room 51), tt)))
+      (record { answer = Refused (refusal OutputTooShort 0 0); exit = (2, (lent cardFile, (lent (room 51), tt))) })
+      (record { answer = accepted 5 1 oneSale; exit = (2, (lent cardFile, (lent (room 51), tt))) })

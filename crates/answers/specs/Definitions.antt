@@ -1,0 +1,57 @@
+-- What the definitions that the demands cite are held to, on files: a definition that says more, or less, is ruled out.
+use mathlib.Core.Path.{_≡_}
+use mathlib.Core.Bool.{true, false}
+use mathlib.Core.List.{[], _∷_}
+use Rattle.refusal.specs.Rules.{firstBroken}
+use Rattle.refusal.specs.declared.Cause.the-variants.{KindNotAllowedHere, SequenceWrong}
+use Rattle.refusal.specs.declared.Fault.the-variants.{At as faultAt}
+use Rattle.lines.specs.Lines.{joined}
+use Rattle.card_run.specs.Answer.{rowOf}
+use Rattle.card_run.specs.declared.stage.Stage.the-variants.{BetweenBatches}
+use Rattle.card_run.specs.declared.answer.CardAnswer.the-variants.{GoingOn, Refused}
+use Rattle.card_kept.specs.Kept.{Kept}
+use Rattle.payroll_kept.specs.Kept as payroll
+use Rattle.demands.specs.Feeding.{upTo}
+use Rattle.demands.specs.FirstFault.{rulesAt}
+use Rattle.demands.specs.HiddenDigits.{hiddenIn, TwinFiles}
+use Rattle.demands.specs.LentBuffers.{cardDone, LeftAlone}
+use Rattle.answers.specs.CardRun.{state, refusal, noSale, oneSale, accepted}
+use Rattle.answers.specs.Samples.{
+  at,
+  a0,
+  l0,
+  sale,
+  l9,
+  a9,
+  cardFile,
+  cardFileOf,
+  fileHeader,
+  batchHeader,
+  payment,
+  batchTrailer,
+  fileTrailer,
+  payrollFile,
+  payrollFileOf,
+}
+
+pub record Definitions : Type 0 where
+  -- `Kept` of a card file: the card's digits judged, a first instalment refused; a sale whose amounts disagree kept, a trailer by the net
+  pub kept-other-card : Kept 2 (cardFileOf (at 88 "0004929000000000017" sale))
+  pub kept-first-instalment : Kept 2 (cardFileOf (at 107 "0102" (at 123 "000000100000000000025000000009750" sale)))
+  pub kept-disagreeing : Kept 2 (cardFileOf (at 77 "00000009751" sale)) → ⊥
+  pub kept-by-net : Kept 2 (joined (a0 ∷ l0 ∷ sale ∷ at 9 "00000000009750" l9 ∷ a9 ∷ [])) → ⊥
+  -- `Kept` of a payroll file: a Z in a file that is no return, a batch trailer that does not count itself
+  pub kept-payroll : payroll.Kept payrollFile
+  pub kept-z : payroll.Kept (payrollFileOf (at 14 "Z" payment)) → ⊥
+  pub kept-not-itself : payroll.Kept (joined (fileHeader ∷ batchHeader ∷ payment ∷ at 18 "000002" batchTrailer ∷ fileTrailer ∷ [])) → ⊥
+  -- `hiddenIn`: places one late, or counted without the LF; `TwinFiles`: an open digit hidden
+  pub hidden-from : (hiddenIn cardFile 192 ≡ false) × (hiddenIn cardFile 193 ≡ true)
+  pub hidden-to : (hiddenIn cardFile 198 ≡ true) × (hiddenIn cardFile 199 ≡ false)
+  pub twins-open-digit : TwinFiles cardFile (cardFileOf (at 88 "0001234567890123457" sale)) → ⊥
+  -- `rulesAt`: the place judged behind the width
+  pub rules-place-first : firstBroken (rulesAt (state BetweenBatches 1 noSale) (at 200 "0" sale)) ≡ faultAt KindNotAllowedHere 0
+  -- `upTo`: a refusal that shows a record late, and one that shows before its record
+  pub refused-at-once : upTo 3 (Refused (refusal SequenceWrong 3 194)) ≡ Refused (refusal SequenceWrong 3 194)
+  pub refused-not-before : upTo 2 (Refused (refusal SequenceWrong 3 194)) ≡ GoingOn
+  -- `LeftAlone`: said of an accepted answer too
+  pub accepted-not-alone : LeftAlone (cardDone (rowOf (accepted 5 1 oneSale)) [] []) → ⊥

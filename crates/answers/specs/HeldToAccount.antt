@@ -1,0 +1,43 @@
+-- "What each answer must be held to": every contract of the libraries, library by library.
+use base.Fml.{Lft}
+use lib.IntN.{ℤ}
+use Rattle.answers.specs.Refusal.{Refusal}
+use Rattle.answers.specs.Text.{Text}
+use Rattle.answers.specs.Calendar.{Calendar}
+use Rattle.answers.specs.Totals.{Totals}
+use Rattle.answers.specs.Pan.{Pan}
+use Rattle.answers.specs.Lines.{Lines}
+use Rattle.answers.specs.CardContent.{CardContent}
+use Rattle.answers.specs.CardSale.{CardSale}
+use Rattle.answers.specs.CardFrame.{CardFrame}
+use Rattle.answers.specs.CardRecord.{CardRecord}
+use Rattle.answers.specs.CardRun.{CardRun}
+use Rattle.answers.specs.CardFile.{CardFile}
+use Rattle.answers.specs.CardMask.{CardMask}
+use Rattle.answers.specs.PayrollRecord.{PayrollRecord}
+use Rattle.answers.specs.PayrollFile.{PayrollFile}
+use Rattle.answers.specs.DaySheet.{DaySheet}
+use Rattle.answers.specs.Cases.{Cases}
+use Rattle.answers.specs.Definitions.{Definitions}
+use Rattle.answers.specs.Programs.{Programs}
+
+pub record HeldToAccount : Type 0 where
+  pub refusal : Refusal
+  pub text : (κ : Lft) → Text κ
+  pub calendar : (κ : Lft) → Calendar κ
+  pub totals : Totals
+  pub pan : (κ : Lft) → Pan κ
+  pub lines : (κ : Lft) → Lines κ
+  pub card-content : (κ : Lft) → CardContent κ
+  pub card-sale : (κ : Lft) → CardSale κ
+  pub card-frame : (κ : Lft) → CardFrame κ
+  pub card-record : (κ : Lft) → CardRecord κ
+  pub card-run : (κ : Lft) → CardRun κ
+  pub card-file : (κ : Lft) → CardFile κ
+  pub card-mask : (κ : Lft) → CardMask κ
+  pub payroll-record : (κ : Lft) → PayrollRecord κ
+  pub payroll-file : (κ : Lft) → PayrollFile κ
+  pub day-sheet : (κ : Lft) → DaySheet κ
+  pub cases : (κ : Lft) → Cases κ
+  pub definitions : Definitions
+  pub programs : (κ : Lft) (fd : ℤ) → Programs κ fd
