@@ -4,7 +4,7 @@ ghost use mathlib.Core.Path.{_≡_};
 ghost use Prim.Native.Nat.{_≤_};
 ghost use lib.ListN.{length};
 ghost use Rattle.card_mask.specs.Masked.{maskedFile};
-ghost use Rattle.mask_cases.specs.Copying.{MasksBetween, copiedInto};
+ghost use Rattle.mask_cases.specs.Copying.{MasksBetween, copiedInto, putInto, alikeOf};
 use card_run::answer::CardAnswer;
 use cases::cuts::Cuts;
 use cases::hash::hash;
@@ -69,25 +69,34 @@ fn in_two(file: &[u8], place: usize, out: &mut [u8])
 }
 
 // Fills an output, and puts the copy of an accepted file in front, masked in chunks.
-pub fn put_in_chunks(answer: CardAnswer, file: &[u8], out: &mut [u8]) {
+pub fn put_in_chunks(answer: CardAnswer, file: &[u8], out: &mut [u8])
+    ensures { λ _. ⌜ now (out .exit) ≡ putInto answer (now (file .entry)) (length (now (out .entry))) ⌝ }
+{
     output::fill(out);
-    if let CardAnswer::Accepted(_) = answer {
-        in_chunks(file, out);
+    match answer {
+        CardAnswer::GoingOn => {}
+        CardAnswer::Accepted(_) => in_chunks(file, out),
+        CardAnswer::Refused(_) => {}
     }
 }
 
 // The same, cut in two at a place.
 fn put_in_two(answer: CardAnswer, file: &[u8], place: usize, out: &mut [u8])
     requires { ⌜ place ≤ length (now file) ⌝ }
+    ensures { λ _. ⌜ now (out .exit) ≡ putInto answer (now (file .entry)) (length (now (out .entry))) ⌝ }
 {
     output::fill(out);
-    if let CardAnswer::Accepted(_) = answer {
-        in_two(file, place, out);
+    match answer {
+        CardAnswer::GoingOn => {}
+        CardAnswer::Accepted(_) => in_two(file, place, out),
+        CardAnswer::Refused(_) => {}
     }
 }
 
 // How many of all the cuts of a file in two give an output of this hash.
-pub fn cuts_alike(answer: CardAnswer, file: &[u8], out: &mut [u8], whole: u64) -> u64 {
+pub fn cuts_alike(answer: CardAnswer, file: &[u8], out: &mut [u8], whole: u64) -> u64
+    ensures { λ r. ⌜ r ≡ alikeOf answer (now (file .entry)) (length (now (out .entry))) whole ⌝ }
+{
     let mut alike = 0;
     let mut place = 0;
     while place <= file.len() {
