@@ -6,7 +6,7 @@ use Rattle.card_record.specs.declared.kind.KindFound.the-variants.{Known, Unkno
 use Rattle.card_record.specs.declared.card_part.CardPart.the-variants.{From, Nowhere}
 use Rattle.card_record.specs.declared.reading.Reading.the-variants.{Faulty, Cv as saleRead}
 use Rattle.answers.specs.CardSale.{cashSale}
-use Rattle.answers.specs.Samples.{at, a0, sale}
+use Rattle.answers.specs.Samples.{at, sale}
 use base.Fml.{Lft}
 use Rattle.card_record.proofs.kind.kind_of.Reads as KindOf
 use Rattle.card_record.proofs.card_part.card_part.Reads as CardPart
@@ -25,15 +25,15 @@ pub record CardRecord (κ : Lft) : Type 0 where
   pub card-from-one : Tells (CardPart.Post (one κ)) (lent sale, tt) (From 87) (From 88)
   pub card-longer : Tells (CardPart.Post (one κ)) (lent (at 200 "0" sale), tt) Nowhere (From 87)
   pub card-other-kind : Tells (CardPart.Post (one κ)) (lent (at 1 "AJ" sale), tt) Nowhere (From 87)
-  -- `read`: capture 7 under edition 1; a launch type 3; a day that is none; the card's digits looked at
+  -- `read`: capture 7 under edition 1; a launch type 3; a day that is none; a hidden digit of the card looked at
   pub read : OneAnswer Read.Post
   pub read-capture : Tells (Read.Post (one κ)) (1, (lent (at 54 "7" sale), tt)) (Faulty Cv ValueNotAllowed 54) (saleRead cashSale)
   pub read-launch-type : Tells (Read.Post (one κ)) (2, (lent (at 44 "3" sale), tt)) (Faulty Cv ValueNotAllowed 44) (saleRead cashSale)
   pub read-day : Tells (Read.Post (one κ)) (2, (lent (at 30 "20230229" sale), tt)) (Faulty Cv ValueNotAllowed 30) (saleRead cashSale)
-  pub read-check-digit : Tells (Read.Post (one κ)) (2, (lent (at 106 "7" sale), tt)) (saleRead cashSale) (Faulty Cv ValueNotAllowed 88)
-  -- `card_quick::read`: the quick way: a picture of a sale that is too wide takes what the slow way refuses
+  pub read-check-digit : Tells (Read.Post (one κ)) (2, (lent (at 99 "7" sale), tt)) (saleRead cashSale) (Faulty Cv ValueNotAllowed 88)
+  -- `card_quick::read`: a picture of a sale that is too wide takes what the slow way refuses
   pub quick-read : OneAnswer QuickRead.Post
   pub quick-read-capture : Tells (QuickRead.Post (one κ)) (1, (lent (at 54 "7" sale), tt)) (Faulty Cv ValueNotAllowed 54) (saleRead cashSale)
   pub quick-read-launch-type : Tells (QuickRead.Post (one κ)) (2, (lent (at 44 "3" sale), tt)) (Faulty Cv ValueNotAllowed 44) (saleRead cashSale)
   pub quick-read-day : Tells (QuickRead.Post (one κ)) (2, (lent (at 30 "20230229" sale), tt)) (Faulty Cv ValueNotAllowed 30) (saleRead cashSale)
-  pub quick-read-check-digit : Tells (QuickRead.Post (one κ)) (2, (lent (at 106 "7" sale), tt)) (saleRead cashSale) (Faulty Cv ValueNotAllowed 88)
+  pub quick-read-check-digit : Tells (QuickRead.Post (one κ)) (2, (lent (at 99 "7" sale), tt)) (saleRead cashSale) (Faulty Cv ValueNotAllowed 88)

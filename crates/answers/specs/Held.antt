@@ -42,7 +42,7 @@ part place s = record { ptr = (0, place); name = 0; now = s }
 abbrev pub lent : List ℕ → RefT (List ℕ)
 lent = part 0
 
--- the lifetimes of one, two and three lent slices
+-- the lifetimes of one lent slice, and of two
 abbrev pub one : Lft → Lfts 1
 one κ = (κ, tt)
 
