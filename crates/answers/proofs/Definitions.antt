@@ -26,7 +26,7 @@ use Rattle.payroll_record.specs.Field.{numberRules}
 use Rattle.payroll_record.specs.Front.{strayAt}
 use Rattle.payroll_record.specs.Kind.{segmentNamed, kindNamed as payrollKindNamed}
 use Rattle.payroll_record.specs.Reading.{readAs, readFound as payrollReadFound}
-use Rattle.payroll_file.specs.Running.{
+use Rattle.payroll_run.specs.Running.{
   foundRules,
   runRules as payrollRunRules,
   behindDetailAs,

@@ -50,8 +50,8 @@ use Rattle.payroll_record.specs.declared.reading.Reading.the-variants.{
   BatchTrailer as batchTrailer,
   FileTrailer as fileTrailer,
 }
-use Rattle.payroll_file.specs.declared.stage.Stage.{Stage as PayrollStage}
-use Rattle.payroll_file.specs.declared.stage.Stage.the-variants.{
+use Rattle.payroll_run.specs.declared.stage.Stage.{Stage as PayrollStage}
+use Rattle.payroll_run.specs.declared.stage.Stage.the-variants.{
   Start as start,
   BetweenBatches as betweenBatches,
   InBatch as inBatch,

@@ -11,7 +11,7 @@ use Rattle.payroll_record.specs.Field.{numberRules}
 use Rattle.payroll_record.specs.Front.{strayAt}
 use Rattle.payroll_record.specs.Kind.{segmentNamed, kindNamed}
 use Rattle.payroll_record.specs.Reading.{readAs, readFound}
-use Rattle.payroll_file.specs.Running.{foundRules, runRules, behindDetailAs, behind, settled, tookAt}
+use Rattle.payroll_run.specs.Running.{foundRules, runRules, behindDetailAs, behind, settled, tookAt}
 use Rattle.lines.specs.Lines.{inFront, cut, joined, endsInCr, withoutLast}
 use Rattle.payroll_file.specs.PayrollFile.{unendedAt, linesOf, endedOf, cutShortOf, endAt}
 use Rattle.chunks.specs.Unfinished.{keptWith}

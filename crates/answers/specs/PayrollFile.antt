@@ -10,9 +10,9 @@ use Rattle.refusal.specs.declared.Cause.the-variants.{NoLineEnd, WrongWidth, Se
 use Rattle.chunks.specs.Unfinished.{holding}
 use Rattle.payroll_record.specs.declared.kind.Kind.the-variants.{SegmentA, SegmentB, SegmentZ, FileHeader}
 use Rattle.payroll_record.specs.declared.reading.Reading.the-variants.{Detail, BatchTrailer, FileTrailer}
-use Rattle.payroll_file.specs.declared.stage.Stage.{Stage}
-use Rattle.payroll_file.specs.declared.stage.Stage.the-variants.{Start, BetweenBatches, InBatch, BehindA, Ended, Refused}
-use Rattle.payroll_file.specs.declared.running.Running.{Running}
+use Rattle.payroll_run.specs.declared.stage.Stage.{Stage}
+use Rattle.payroll_run.specs.declared.stage.Stage.the-variants.{Start, BetweenBatches, InBatch, BehindA, Ended, Refused}
+use Rattle.payroll_run.specs.declared.running.Running.{Running}
 use Rattle.payroll_file.specs.declared.answer.PayrollAnswer.{PayrollAnswer}
 use Rattle.payroll_file.specs.declared.answer.PayrollAnswer.the-variants.{Accepted, Refused as refused}
 use Rattle.payroll_stream.specs.declared.Stream.{Stream}
@@ -22,11 +22,11 @@ use Rattle.answers.specs.CardRun.{refusal}
 use Rattle.answers.specs.PayrollRecord.{detailOf, batchTrailerOf, fileTrailerOf}
 use Rattle.answers.specs.Samples.{at, payment, payrollFile, payrollFileOf}
 use base.Fml.{Lft}
-use Rattle.payroll_file.proofs.running.Running.open.Reads as Open
-use Rattle.payroll_file.proofs.running.Running.refusal.Reads as RefusalOf
-use Rattle.payroll_file.proofs.running.Running.refused.Reads as RefusedAt
-use Rattle.payroll_file.proofs.running.Running.took.Reads as Took
-use Rattle.payroll_file.proofs.stage.Stage.allows.Reads as Allows
+use Rattle.payroll_run.proofs.running.Running.open.Reads as Open
+use Rattle.payroll_run.proofs.running.Running.refusal.Reads as RefusalOf
+use Rattle.payroll_run.proofs.running.Running.refused.Reads as RefusedAt
+use Rattle.payroll_run.proofs.running.Running.took.Reads as Took
+use Rattle.payroll_run.proofs.stage.Stage.allows.Reads as Allows
 use Rattle.payroll_file.proofs.file.take_line.Reads as TakeLine
 use Rattle.payroll_file.proofs.file.answer_with_rest.Reads as AnswerWithRest
 use Rattle.payroll_file.proofs.file.check.Reads as Check

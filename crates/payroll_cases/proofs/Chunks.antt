@@ -9,7 +9,7 @@ use Rattle.chunks.specs.Unfinished.{heldBy}
 use Rattle.chunks.specs.Chunks.{Run, ranOver, joinedChunks}
 use Rattle.chunks.proofs.Held.{held-back}
 use Rattle.chunks.proofs.Streams.{two-chunks}
-use Rattle.payroll_file.specs.declared.running.Running.{Running}
+use Rattle.payroll_run.specs.declared.running.Running.{Running}
 use Rattle.payroll_file.specs.PayrollFile.{lineOf, checkOf}
 use Rattle.payroll_stream.specs.declared.Progress.the-variants.{GoingOn, Answered}
 use Rattle.payroll_stream.specs.declared.Stream.{Stream}

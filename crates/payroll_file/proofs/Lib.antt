@@ -1,3 +1,2 @@
-mod Found
 mod Ends
 pub mod Steps

@@ -8,7 +8,7 @@ use lib.Seq.{take-all}
 use Rattle.lines.specs.declared.Found.the-variants.{At, Nowhere}
 use Rattle.lines.specs.Lines.{cut, nextLf}
 use Rattle.lines.proofs.Cuts.{cut-at, cut-nowhere}
-use Rattle.payroll_file.specs.declared.running.Running.{Running}
+use Rattle.payroll_run.specs.declared.running.Running.{Running}
 use Rattle.payroll_file.specs.PayrollFile.{lineOf, linesOf, endOf, ranOf}
 
 -- an LF: the piece before it is taken, and the run goes on behind it

@@ -1,4 +1,2 @@
-pub mod Stage
-pub mod Running
 pub mod PayrollFile
 pub mod Answer

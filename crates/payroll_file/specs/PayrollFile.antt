@@ -6,12 +6,12 @@ use Rattle.refusal.specs.declared.Cause.the-variants.{NoLineEnd, EndsTooEarly, 
 use Rattle.text.specs.Literal.{sameBytes}
 use Rattle.lines.specs.Lines.{Lines, cut, endsInCr, withoutLast}
 use Rattle.payroll_record.specs.Reading.{readingOf}
-use Rattle.payroll_file.specs.declared.stage.Stage.{Stage}
-use Rattle.payroll_file.specs.declared.stage.Stage.the-variants.{Start, BetweenBatches, InBatch, BehindA, BehindB, Ended, Refused}
-use Rattle.payroll_file.specs.declared.running.Running.{Running}
+use Rattle.payroll_run.specs.declared.stage.Stage.{Stage}
+use Rattle.payroll_run.specs.declared.stage.Stage.the-variants.{Start, BetweenBatches, InBatch, BehindA, BehindB, Ended, Refused}
+use Rattle.payroll_run.specs.declared.running.Running.{Running}
 use Rattle.payroll_file.specs.declared.answer.PayrollAnswer.{PayrollAnswer}
 use Rattle.payroll_file.specs.declared.answer.PayrollAnswer.the-variants.{Accepted, Refused as refused}
-use Rattle.payroll_file.specs.Running.{opened, refusalAt, refusedAt, tookOf}
+use Rattle.payroll_run.specs.Running.{opened, refusalAt, refusedAt, tookOf}
 
 -- 3, "no LF in the rest, or the next LF has no CR right before it in the record"; 13, "bytes after the end", comes first
 unfoldable pub unendedAt : Stage → Running → Running

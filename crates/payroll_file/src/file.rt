@@ -3,9 +3,9 @@ ghost use mathlib.Core.Path.{_≡_};
 ghost use Rattle.payroll_file.specs.PayrollFile.{unendedOf, lineOf, endedOf, cutShortOf, endOf, checkOf};
 use crate::answer::Accepted;
 use crate::answer::PayrollAnswer;
-use crate::running::Running;
-use crate::stage::Stage;
 use lines::Found;
+use payroll_run::running::Running;
+use payroll_run::stage::Stage;
 use refusal::Cause;
 
 // Bytes without a line end: 13 behind the file trailer, else 3.

@@ -1,5 +1,3 @@
-// A payroll file: the running state that takes one record's reading after the other, and the file read whole.
+// A payroll file read whole, and its answer.
 pub mod answer;
 pub mod file;
-pub mod running;
-pub mod stage;

@@ -9,13 +9,13 @@ use Rattle.text.specs.Literal.{sameBytes}
 use Rattle.totals.specs.Sum.{top}
 use Rattle.payroll_record.specs.declared.kind.Kind.the-variants.{FileHeader, BatchHeader, BatchTrailer, FileTrailer}
 use Rattle.payroll_record.specs.FileHeader.{isReturn}
-use Rattle.payroll_file.specs.declared.stage.Stage.the-variants.{BetweenBatches, Ended}
-use Rattle.payroll_file.specs.declared.running.Batch.{Batch as Open}
-use Rattle.payroll_file.specs.declared.running.Running.{Running}
+use Rattle.payroll_run.specs.declared.stage.Stage.the-variants.{BetweenBatches, Ended}
+use Rattle.payroll_run.specs.declared.running.Batch.{Batch as Open}
+use Rattle.payroll_run.specs.declared.running.Running.{Running}
 use Rattle.payroll_file.specs.declared.answer.Accepted.{Accepted}
 use Rattle.payroll_file.specs.declared.answer.PayrollAnswer.the-variants.{Accepted as accepted}
-use Rattle.payroll_file.specs.Stage.{placed}
-use Rattle.payroll_file.specs.Running.{opened}
+use Rattle.payroll_run.specs.Stage.{placed}
+use Rattle.payroll_run.specs.Running.{opened}
 use Rattle.payroll_file.specs.PayrollFile.{endedOf, endAt, endOf, ranOf, checkOf}
 use Rattle.payroll_kept.specs.Records.{BatchTrailerKept, FileTrailerKept}
 use Rattle.payroll_kept.specs.Kept.{Payment, Batch, File, paymentRecords, details, batchRecords, batchesRecords, recordsOf, batchesPayments, paymentsOf, amountOf, BatchKept, BatchesKept, FileKept, Kept}

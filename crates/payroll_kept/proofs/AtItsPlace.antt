@@ -26,10 +26,10 @@ use Rattle.payroll_record.specs.FileHeader.{codeRules as readCode, headerRules}
 use Rattle.payroll_record.specs.Detail.{paymentRules, amountOf, detailOf}
 use Rattle.payroll_record.specs.FileTrailer.{trailerFrontRules}
 use Rattle.payroll_record.specs.Reading.{readAs, readFound, readingOf}
-use Rattle.payroll_file.specs.declared.stage.Stage.{Stage}
-use Rattle.payroll_file.specs.declared.stage.Stage.the-variants.{Start, BetweenBatches, InBatch, BehindA, BehindB, Ended, Refused}
-use Rattle.payroll_file.specs.declared.running.Running.{Running}
-use Rattle.payroll_file.specs.Running.{placeRule, foundRules, runRules, settled, tookAt, tookOf}
+use Rattle.payroll_run.specs.declared.stage.Stage.{Stage}
+use Rattle.payroll_run.specs.declared.stage.Stage.the-variants.{Start, BetweenBatches, InBatch, BehindA, BehindB, Ended, Refused}
+use Rattle.payroll_run.specs.declared.running.Running.{Running}
+use Rattle.payroll_run.specs.Running.{placeRule, foundRules, runRules, settled, tookAt, tookOf}
 use Rattle.payroll_kept.specs.FirstFault.{byteRules, digitsRule, numberRules, dayRules, codeRules, rulesAs, ended, isOneOf, kindKnown, segmentKnown, rulesFromWidth, recordRules, Going}
 use Rattle.payroll_kept.proofs.Names.{Named, kind-named}
 use Rattle.payroll_kept.proofs.Faults.{same-row, found, far, far-most, number-fault, bytes-fault, day-fault}

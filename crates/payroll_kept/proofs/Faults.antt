@@ -30,7 +30,7 @@ use Rattle.calendar.specs.Day.{isDay, turned, turnedRound, dayFirst}
 use Rattle.payroll_record.specs.Field.{field, numberIn, numberRules as readRules}
 use Rattle.payroll_record.specs.Front.{strayAt}
 use Rattle.payroll_record.proofs.Fields.{no-wider}
-use Rattle.payroll_file.specs.Running.{foundRules}
+use Rattle.payroll_run.specs.Running.{foundRules}
 use Rattle.payroll_kept.specs.FirstFault.{byteRules, numberRules, dayRules}
 
 -- rows in a row, and rules in front of others

@@ -22,9 +22,9 @@ use Rattle.payroll_record.specs.declared.reading.Reading.the-variants.{
   FileTrailer as fileTrailer,
 }
 use Rattle.payroll_record.specs.Reading.{readingOf}
-use Rattle.payroll_file.specs.declared.stage.Stage.the-variants.{Refused}
-use Rattle.payroll_file.specs.declared.running.Running.{Running}
-use Rattle.payroll_file.specs.Running.{refusalAt, behindDetailAs, behind, settled, tookOf}
+use Rattle.payroll_run.specs.declared.stage.Stage.the-variants.{Refused}
+use Rattle.payroll_run.specs.declared.running.Running.{Running}
+use Rattle.payroll_run.specs.Running.{refusalAt, behindDetailAs, behind, settled, tookOf}
 use Rattle.payroll_kept.specs.FirstFault.{recordRules, Going, RefusedBy, FirstFaultOfRecord}
 use Rattle.payroll_kept.proofs.AtItsPlace.{clash, by-the-list}
 

@@ -20,13 +20,13 @@ use Rattle.lines.specs.Lines.{cut, endsInCr, withoutLast}
 use Rattle.payroll_record.specs.declared.kind.Kind.{Kind}
 use Rattle.payroll_record.specs.declared.kind.Kind.the-variants.{FileHeader, BatchHeader, SegmentA, SegmentB, SegmentZ, BatchTrailer, FileTrailer}
 use Rattle.payroll_record.specs.Reading.{readingOf}
-use Rattle.payroll_file.specs.declared.stage.Stage.{Stage}
-use Rattle.payroll_file.specs.declared.stage.Stage.the-variants.{Start, BetweenBatches, InBatch, BehindA, BehindB, Ended, Refused}
-use Rattle.payroll_file.specs.declared.running.Running.{Running}
+use Rattle.payroll_run.specs.declared.stage.Stage.{Stage}
+use Rattle.payroll_run.specs.declared.stage.Stage.the-variants.{Start, BetweenBatches, InBatch, BehindA, BehindB, Ended, Refused}
+use Rattle.payroll_run.specs.declared.running.Running.{Running}
 use Rattle.payroll_file.specs.declared.answer.Accepted.{Accepted}
 use Rattle.payroll_file.specs.declared.answer.PayrollAnswer.{PayrollAnswer}
 use Rattle.payroll_file.specs.declared.answer.PayrollAnswer.the-variants.{Accepted as isAccepted, Refused as refused}
-use Rattle.payroll_file.specs.Running.{opened, nextNumber, refusalAt, settled}
+use Rattle.payroll_run.specs.Running.{opened, nextNumber, refusalAt, settled}
 use Rattle.payroll_file.specs.PayrollFile.{unendedAt, unendedOf, lineOf, linesOf, accepted, endedOf, cutShortOf, endAt, endOf, checkOf}
 use Rattle.payroll_kept.specs.Accepts.{Accepts}
 use Rattle.payroll_kept.specs.FirstFault.{ended, endRule, rulesFromWidth, Going}

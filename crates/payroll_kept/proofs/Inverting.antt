@@ -11,7 +11,7 @@ use Rattle.payroll_record.specs.declared.kind.Kind.{Kind}
 use Rattle.payroll_record.specs.declared.kind.Kind.the-variants.{FileHeader, BatchHeader, SegmentA, SegmentB, SegmentZ, BatchTrailer, FileTrailer}
 use Rattle.payroll_file.specs.declared.answer.Accepted.{Accepted}
 use Rattle.payroll_file.specs.declared.answer.PayrollAnswer.the-variants.{Accepted as accepted}
-use Rattle.payroll_file.specs.Running.{opened}
+use Rattle.payroll_run.specs.Running.{opened}
 use Rattle.payroll_file.specs.PayrollFile.{checkOf}
 use Rattle.payroll_kept.specs.Kept.{File, batchesRecords, recordsOf, FileKept, Kept}
 use Rattle.payroll_kept.proofs.Plain.{behindPlain}

@@ -12,11 +12,11 @@ use Rattle.payroll_record.specs.declared.kind.Kind.{Kind}
 use Rattle.payroll_record.specs.declared.kind.Kind.the-variants.{FileHeader, BatchHeader, SegmentA, SegmentB, SegmentZ, BatchTrailer, FileTrailer}
 use Rattle.payroll_record.specs.FileHeader.{isReturn}
 use Rattle.payroll_record.proofs.RightRecords.{is-return}
-use Rattle.payroll_file.specs.declared.stage.Stage.{Stage}
-use Rattle.payroll_file.specs.declared.stage.Stage.the-variants.{BetweenBatches, InBatch, BehindA, BehindB}
-use Rattle.payroll_file.specs.declared.running.Running.{Running}
+use Rattle.payroll_run.specs.declared.stage.Stage.{Stage}
+use Rattle.payroll_run.specs.declared.stage.Stage.the-variants.{BetweenBatches, InBatch, BehindA, BehindB}
+use Rattle.payroll_run.specs.declared.running.Running.{Running}
 use Rattle.payroll_file.specs.declared.answer.Accepted.{Accepted}
-use Rattle.payroll_file.specs.Stage.{placed}
+use Rattle.payroll_run.specs.Stage.{placed}
 use Rattle.payroll_kept.specs.Records.{IsReturn, BKept, ZKept, BatchTrailerKept, FileTrailerKept}
 use Rattle.payroll_kept.specs.Kept.{
   Payment,

@@ -24,9 +24,9 @@ use Rattle.payroll_record.proofs.Fields.{Writes}
 use Rattle.payroll_record.proofs.NoFault.{NoFault, none-of-one}
 use Rattle.payroll_record.proofs.Readings.{Found}
 use Rattle.payroll_record.proofs.RightRecords.{FrontRight, HeaderRight, front-right, header-right, trailer-front-right, payment-right}
-use Rattle.payroll_file.specs.declared.running.Running.{Running}
-use Rattle.payroll_file.specs.Stage.{placed}
-use Rattle.payroll_file.specs.Running.{placeRule, foundRules, runRules}
+use Rattle.payroll_run.specs.declared.running.Running.{Running}
+use Rattle.payroll_run.specs.Stage.{placed}
+use Rattle.payroll_run.specs.Running.{placeRule, foundRules, runRules}
 use Rattle.payroll_kept.specs.Fields.{Holds}
 use Rattle.payroll_kept.specs.Records.{Kind as OfKind, HeaderKept, BatchHeaderKept, DetailKept, AKept, BKept, BatchTrailerKept, FileTrailerKept}
 use Rattle.payroll_kept.proofs.Names.{nameOf, SegmentIs, named-kind, kind-named}

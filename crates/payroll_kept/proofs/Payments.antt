@@ -12,10 +12,10 @@ use Rattle.payroll_record.specs.declared.kind.Kind.{Kind}
 use Rattle.payroll_record.specs.declared.kind.Kind.the-variants.{SegmentA, SegmentB, SegmentZ, BatchTrailer}
 use Rattle.payroll_record.specs.FileHeader.{isReturn}
 use Rattle.payroll_record.proofs.RightRecords.{is-return}
-use Rattle.payroll_file.specs.declared.stage.Stage.{Stage}
-use Rattle.payroll_file.specs.declared.stage.Stage.the-variants.{Start, BetweenBatches, InBatch, BehindA, BehindB, Ended, Refused}
-use Rattle.payroll_file.specs.declared.running.Running.{Running}
-use Rattle.payroll_file.specs.Stage.{placed}
+use Rattle.payroll_run.specs.declared.stage.Stage.{Stage}
+use Rattle.payroll_run.specs.declared.stage.Stage.the-variants.{Start, BetweenBatches, InBatch, BehindA, BehindB, Ended, Refused}
+use Rattle.payroll_run.specs.declared.running.Running.{Running}
+use Rattle.payroll_run.specs.Stage.{placed}
 use Rattle.payroll_file.specs.PayrollFile.{lineOf, linesOf}
 use Rattle.payroll_kept.specs.Records.{DetailKept, ZKept}
 use Rattle.payroll_kept.specs.Kept.{Payment, ifThere, paymentRecords, details, amountAt, amountOf, IfThere, PaymentKept, PaymentsKept}

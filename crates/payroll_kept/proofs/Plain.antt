@@ -12,11 +12,11 @@ use Rattle.payroll_record.specs.FileHeader.{isReturn}
 use Rattle.payroll_record.specs.Detail.{amount, amountOf}
 use Rattle.payroll_record.specs.Reading.{readAs}
 use Rattle.payroll_record.proofs.Fields.{read}
-use Rattle.payroll_file.specs.declared.stage.Stage.{Stage}
-use Rattle.payroll_file.specs.declared.stage.Stage.the-variants.{BetweenBatches, InBatch, BehindA, BehindB, Ended}
-use Rattle.payroll_file.specs.declared.running.Batch.{Batch}
-use Rattle.payroll_file.specs.declared.running.Running.{Running}
-use Rattle.payroll_file.specs.Running.{counted, behindSegment, behindDetailAs, behind}
+use Rattle.payroll_run.specs.declared.stage.Stage.{Stage}
+use Rattle.payroll_run.specs.declared.stage.Stage.the-variants.{BetweenBatches, InBatch, BehindA, BehindB, Ended}
+use Rattle.payroll_run.specs.declared.running.Batch.{Batch}
+use Rattle.payroll_run.specs.declared.running.Running.{Running}
+use Rattle.payroll_run.specs.Running.{counted, behindSegment, behindDetailAs, behind}
 use Rattle.payroll_kept.specs.Fields.{DigitsAt}
 use Rattle.payroll_kept.specs.Kept.{amountAt}
 

@@ -12,14 +12,14 @@ use Rattle.lines.specs.Lines.{endsInCr, withoutLast, withCr}
 use Rattle.lines.proofs.Ends.{record-and-cr}
 use Rattle.payroll_record.specs.declared.kind.Kind.{Kind}
 use Rattle.payroll_record.specs.Reading.{readingOf}
-use Rattle.payroll_file.specs.declared.stage.Stage.{Stage}
-use Rattle.payroll_file.specs.declared.stage.Stage.the-variants.{Start, BetweenBatches, InBatch, BehindA, BehindB, Ended, Refused}
-use Rattle.payroll_file.specs.declared.running.Running.{Running}
+use Rattle.payroll_run.specs.declared.stage.Stage.{Stage}
+use Rattle.payroll_run.specs.declared.stage.Stage.the-variants.{Start, BetweenBatches, InBatch, BehindA, BehindB, Ended, Refused}
+use Rattle.payroll_run.specs.declared.running.Running.{Running}
 use Rattle.payroll_file.specs.declared.answer.Accepted.{Accepted}
 use Rattle.payroll_file.specs.declared.answer.PayrollAnswer.{PayrollAnswer}
 use Rattle.payroll_file.specs.declared.answer.PayrollAnswer.the-variants.{Accepted as accepted, Refused as refused}
-use Rattle.payroll_file.specs.Stage.{placed}
-use Rattle.payroll_file.specs.Running.{tookAt}
+use Rattle.payroll_run.specs.Stage.{placed}
+use Rattle.payroll_run.specs.Running.{tookAt}
 use Rattle.payroll_file.specs.PayrollFile.{unendedAt, unendedOf, lineOf, linesOf, endedOf, cutShortOf, endAt, endOf}
 use Rattle.payroll_kept.specs.FirstFault.{Going}
 use Rattle.payroll_kept.proofs.Plain.{cap}

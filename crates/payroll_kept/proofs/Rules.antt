@@ -18,7 +18,7 @@ use Rattle.text.specs.Part.{positions}
 use Rattle.payroll_record.specs.Field.{field, numberIn, numberRules}
 use Rattle.payroll_record.proofs.Fields.{Writes, read, number-below}
 use Rattle.payroll_record.proofs.NoFault.{NoFault, none-in-a-row, none-of-one, field-right, RealDay}
-use Rattle.payroll_file.specs.Running.{foundRules}
+use Rattle.payroll_run.specs.Running.{foundRules}
 use Rattle.payroll_kept.specs.Fields.{Holds, DayAt}
 
 -- two rows, one behind the other

@@ -19,11 +19,11 @@ use Rattle.payroll_record.specs.Kind.{kindOf}
 use Rattle.payroll_record.specs.Reading.{readAs, readFound, readingOf}
 use Rattle.payroll_record.proofs.NoFault.{NoFault}
 use Rattle.payroll_record.proofs.Readings.{as-found}
-use Rattle.payroll_file.specs.declared.stage.Stage.{Stage}
-use Rattle.payroll_file.specs.declared.stage.Stage.the-variants.{Start, BetweenBatches, InBatch, BehindA, BehindB, Ended, Refused}
-use Rattle.payroll_file.specs.declared.running.Running.{Running}
-use Rattle.payroll_file.specs.Stage.{placed}
-use Rattle.payroll_file.specs.Running.{runRules, settled, judgedOf, tookAt, tookOf}
+use Rattle.payroll_run.specs.declared.stage.Stage.{Stage}
+use Rattle.payroll_run.specs.declared.stage.Stage.the-variants.{Start, BetweenBatches, InBatch, BehindA, BehindB, Ended, Refused}
+use Rattle.payroll_run.specs.declared.running.Running.{Running}
+use Rattle.payroll_run.specs.Stage.{placed}
+use Rattle.payroll_run.specs.Running.{runRules, settled, judgedOf, tookAt, tookOf}
 use Rattle.payroll_kept.specs.FirstFault.{Going}
 use Rattle.payroll_kept.proofs.Plain.{cap, behindPlain, behind-is}
 use Rattle.payroll_kept.proofs.Next.{Next, is-next, none-broken, amounts}

@@ -31,11 +31,11 @@ use Rattle.payroll_record.specs.declared.kind.KindFound.{KindFound}
 use Rattle.payroll_record.specs.declared.kind.KindFound.the-variants.{Known, UnknownKind, UnknownSegment}
 use Rattle.payroll_record.specs.Kind.{kindOf}
 use Rattle.payroll_record.specs.Reading.{readingOf}
-use Rattle.payroll_file.specs.declared.stage.Stage.{Stage}
-use Rattle.payroll_file.specs.declared.stage.Stage.the-variants.{Start, BetweenBatches, InBatch, BehindA, BehindB, Ended, Refused}
-use Rattle.payroll_file.specs.declared.running.Running.{Running}
-use Rattle.payroll_file.specs.Stage.{placed}
-use Rattle.payroll_file.specs.Running.{nextNumber, tookOf}
+use Rattle.payroll_run.specs.declared.stage.Stage.{Stage}
+use Rattle.payroll_run.specs.declared.stage.Stage.the-variants.{Start, BetweenBatches, InBatch, BehindA, BehindB, Ended, Refused}
+use Rattle.payroll_run.specs.declared.running.Running.{Running}
+use Rattle.payroll_run.specs.Stage.{placed}
+use Rattle.payroll_run.specs.Running.{nextNumber, tookOf}
 use Rattle.payroll_kept.specs.Fields.{numberAt}
 
 -- "then 7 for any byte outside 32 to 126 (column of that byte)", from a column on

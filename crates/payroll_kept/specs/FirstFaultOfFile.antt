@@ -11,9 +11,9 @@ use Rattle.refusal.specs.Rules.{Rule, ruleAt, allHold, FirstBroken}
 use Rattle.text.specs.Literal.{sameBytes}
 use Rattle.totals.specs.Sum.{capped}
 use Rattle.lines.specs.Lines.{Lines, cut, endsInCr, withoutLast}
-use Rattle.payroll_file.specs.declared.running.Running.{Running}
+use Rattle.payroll_run.specs.declared.running.Running.{Running}
 use Rattle.payroll_file.specs.declared.answer.PayrollAnswer.the-variants.{Refused as refused}
-use Rattle.payroll_file.specs.Running.{opened}
+use Rattle.payroll_run.specs.Running.{opened}
 use Rattle.payroll_file.specs.PayrollFile.{lineOf, linesOf, checkOf}
 use Rattle.payroll_kept.specs.FirstFault.{ended, endRule, rulesFromWidth}
 use Rattle.payroll_kept.specs.Accepts.{Accepts}

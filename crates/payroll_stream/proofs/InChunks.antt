@@ -7,8 +7,8 @@ use Rattle.lines.specs.Lines.{cut}
 use Rattle.chunks.specs.Chunks.{Run, startOf, ranOver, joinedChunks}
 use Rattle.chunks.proofs.Held.{held-back}
 use Rattle.chunks.proofs.Streams.{in-chunks}
-use Rattle.payroll_file.specs.declared.running.Running.{Running}
-use Rattle.payroll_file.specs.Running.{opened}
+use Rattle.payroll_run.specs.declared.running.Running.{Running}
+use Rattle.payroll_run.specs.Running.{opened}
 use Rattle.payroll_file.specs.PayrollFile.{lineOf, linesOf, endOf, checkOf}
 use Rattle.payroll_stream.specs.declared.Progress.the-variants.{Answered}
 use Rattle.payroll_stream.specs.Stream.{goingOn, openOf, takenAt, takenOf, endedAt, endedOf, answerAt, answerOf}

@@ -17,10 +17,10 @@ use Rattle.chunks.proofs.Streams.{LooksNoFurther}
 use Rattle.payroll_record.specs.declared.reading.Reading.the-variants.{WrongWidth}
 use Rattle.payroll_record.specs.Reading.{readFound, readingOf}
 use Rattle.payroll_record.specs.Kind.{kindOf}
-use Rattle.payroll_file.specs.declared.stage.Stage.{Stage}
-use Rattle.payroll_file.specs.declared.stage.Stage.the-variants.{Start, BetweenBatches, InBatch, BehindA, BehindB, Ended, Refused}
-use Rattle.payroll_file.specs.declared.running.Running.{Running}
-use Rattle.payroll_file.specs.Running.{tookOf}
+use Rattle.payroll_run.specs.declared.stage.Stage.{Stage}
+use Rattle.payroll_run.specs.declared.stage.Stage.the-variants.{Start, BetweenBatches, InBatch, BehindA, BehindB, Ended, Refused}
+use Rattle.payroll_run.specs.declared.running.Running.{Running}
+use Rattle.payroll_run.specs.Running.{tookOf}
 use Rattle.payroll_file.specs.PayrollFile.{lineOf, unendedOf, cutShortOf, endedOf, endAt, endOf}
 
 too-wide : (r : List ℕ) → 240 < length r → readingOf r ≡ WrongWidth

@@ -6,12 +6,12 @@ use Rattle.lines.specs.Lines.{cut}
 use Rattle.chunks.specs.declared.Unfinished.{Unfinished}
 use Rattle.chunks.specs.Unfinished.{heldBy, holding}
 use Rattle.chunks.specs.Chunks.{Run, startOf, ranLines, ranOver}
-use Rattle.payroll_file.specs.declared.stage.Stage.{Stage}
-use Rattle.payroll_file.specs.declared.stage.Stage.the-variants.{Start, BetweenBatches, InBatch, BehindA, BehindB, Ended, Refused}
-use Rattle.payroll_file.specs.declared.running.Running.{Running}
+use Rattle.payroll_run.specs.declared.stage.Stage.{Stage}
+use Rattle.payroll_run.specs.declared.stage.Stage.the-variants.{Start, BetweenBatches, InBatch, BehindA, BehindB, Ended, Refused}
+use Rattle.payroll_run.specs.declared.running.Running.{Running}
 use Rattle.payroll_file.specs.declared.answer.PayrollAnswer.{PayrollAnswer}
 use Rattle.payroll_file.specs.declared.answer.PayrollAnswer.the-variants.{Accepted, Refused as refused}
-use Rattle.payroll_file.specs.Running.{opened, refusalAt}
+use Rattle.payroll_run.specs.Running.{opened, refusalAt}
 use Rattle.payroll_file.specs.PayrollFile.{lineOf, endOf}
 use Rattle.payroll_stream.specs.declared.Progress.{Progress}
 use Rattle.payroll_stream.specs.declared.Progress.the-variants.{GoingOn, Answered}

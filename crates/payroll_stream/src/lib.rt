@@ -15,8 +15,8 @@ ghost use Rattle.payroll_stream.specs.Stream.{
 use chunks::Unfinished;
 use lines::Found;
 use payroll_file::answer::PayrollAnswer;
-use payroll_file::running::Running;
-use payroll_file::stage::Stage;
+use payroll_run::running::Running;
+use payroll_run::stage::Stage;
 use refusal::Cause;
 
 pub enum Progress {

@@ -1,6 +1,6 @@
 -- `payroll_file::file::answer_with_rest` meets its contract: the stage decides.
 use mathlib.Core.Path.{sym, _∙_, ap}
-use Rattle.payroll_file.specs.declared.stage.Stage.{Stage}
+use Rattle.payroll_run.specs.declared.stage.Stage.{Stage}
 use Rattle.payroll_file.specs.PayrollFile.{endAt}
 use borrow.Author.Needs.{needs}
 use Rattle.payroll_file.proofs.file.answer_with_rest.Statement.{statement}

@@ -1,6 +1,6 @@
 -- `payroll_file::file::no_line_end` meets its contract: the stage decides.
 use mathlib.Core.Path.{sym, _∙_, ap}
-use Rattle.payroll_file.specs.declared.stage.Stage.{Stage}
+use Rattle.payroll_run.specs.declared.stage.Stage.{Stage}
 use Rattle.payroll_file.specs.PayrollFile.{unendedAt}
 use borrow.Author.Needs.{needs}
 use Rattle.payroll_file.proofs.file.no_line_end.Statement.{statement}

@@ -1,0 +1,32 @@
+-- `payroll_run::running::Running::counted` meets its contract: the stage and the counts change.
+use borrow.Author.Needs.{needs}
+use Rattle.payroll_run.proofs.running.Running.counted.Statement.{statement}
+use Rattle.payroll_run.proofs.running.Running.counted.Tie as tie
+
+added-requires : tie.Need-added-requires
+added-requires c κs = search needs
+
+staged-requires : tie.Need-staged-requires
+staged-requires c κs = search needs
+
+next-number-requires : tie.Need-next-number-requires
+next-number-requires c κs = search needs
+
+returns : tie.Need-returns
+returns c =
+    let open-batch = c .before .before .before .before .args .self .batch in
+    let e = c .before .staged .ensures in
+    let n = c .next-number .ensures in
+    let m = c .before .before .added .ensures in
+    λ i. record {
+      stage = e i .stage;
+      «is_return» = e i .«is_return»;
+      records = n i;
+      batches = e i .batches;
+      payments = e i .payments;
+      amount = e i .amount;
+      batch = record { records = m i; details = open-batch .details; sum = open-batch .sum };
+    }
+
+pub counted-spec : {M : Type 1} → statement M
+counted-spec = tie.close (tie.spec added-requires staged-requires next-number-requires returns)
