@@ -5,10 +5,12 @@
     tests/card_cases.py --list    and print where in `stdout` each case stands, its name and its answer
 
 It writes
-    crates/card_cases/data/own.cases    whole files:          edition (1 byte), length (4), the file
-    crates/feed_cases/data/own.cases    record by record:     edition (1), length (4), the calls: length (4) and a record, or FFFFFFFF to close
-and what stands from the line `own` on in crates/card_cases/stdout and crates/feed_cases/stdout: the lines of whole files, and the same lines again for
-the files in chunks, where the outside cases' lines are repeated too.
+    crates/card_cases/data/own.cases        whole files:          edition (1 byte), length (4), the file
+    crates/card_cases/data/own_fed.cases    record by record:     edition (1), length (4), the calls: length (4) and a record, or FFFFFFFF to close
+    crates/card_cases/data/own_fields.cases the field question:   tests/field_cases.py
+and what stands from the line `own` on in crates/card_cases/stdout: the lines of whole files, the same lines again for the files in chunks, where the
+outside cases' lines are repeated too, those of the files given record by record, those of what no file of cases can say (src/limits.rt), and those of
+the field question.
 
 A case is a name, how its file is built, and the line that document 01 gives it. The lines are written here by hand: nothing in this script
 computes an answer, and no program under test was asked for one. Where a program prints another line, document 01 decides which is right.
@@ -16,6 +18,7 @@ computes an answer, and no program under test was asked for one. Where a program
 A line is `A date movement records batches sales gross discount net` or `R number record column`; a fed case has one for each call, `-` for none.
 Behind the answer of a file that is cut in two at every place stands how many cuts have that answer: as many as the file has bytes, and one.
 """
+import field_cases
 from records import A0, A9, ACCEPTED, CRLF, CV, FIVE, L0, L9, numbered, put, sale, whole
 from stored import cut_at_every_place, number, outside, run, write_cases, write_stdout
 
@@ -426,6 +429,22 @@ feed("two batches", R[:4] + [L0_5, L9_6, A9_OF_7, CLOSE], *["-"] * 7, "A 2023111
 feed("three instalments", [A0, L0, FIRST_OF_3, SECOND_OF_3, THIRD_OF_3, L9_OF_3, A9_OF_7, CLOSE], *["-"] * 7,
      "A 20231115 000042 7 1 3 30000 750 29250")
 
+# ---- What no file of cases can say: editions of more than a byte, and states far into a file ------------------------------------------------
+
+LIMITS = [
+    ("edition 0", "R 1 0 0"),
+    ("edition 1", ACCEPTED),
+    ("edition 2", ACCEPTED),
+    ("edition 3", "R 1 0 0"),
+    ("edition 258", "R 1 0 0"),
+    ("edition 2^32 + 2", "R 1 0 0"),
+    ("edition 2^64 - 1", "R 1 0 0"),
+    ("record 999999", "-"),
+    ("record 1000000", "R 9 1000000 23"),
+    ("and for ever", "R 9 1000000 23"),
+    ("no number above 2^64 - 1", "R 9 18446744073709551615 13"),
+]
+
 # ---- Writing them ------------------------------------------------------------------------------------------------------------------------------
 
 
@@ -440,10 +459,15 @@ def main():
         ("own", own),
         ("outside, in chunks", outside("card_cases")),
         ("own, in chunks", own),
-        ("own, cut at every place", cut_at_every_place([(name, file, line) for name, _, file, line in CARD], 400))])
+        ("own, cut at every place", cut_at_every_place([(name, file, line) for name, _, file, line in CARD], 400)),
+        ("outside, record by record", outside("card_cases", ", record by record")),
+        ("own, record by record", [(name, line) for name, _, _, line in FEED]),
+        ("limits", [(name, f"{name}: {line}") for name, line in LIMITS]),
+        ("outside, fields", outside("card_cases", ", fields")),
+        ("own, fields", field_cases.LINES)])
+    write_cases("card_cases", "own_fields.cases", field_cases.STORED)
     fed = [(edition, b"".join(map(call, calls))) for _, edition, calls, _ in FEED]
-    write_cases("feed_cases", "own.cases", (bytes([edition]) + number(len(calls)) + calls for edition, calls in fed))
-    write_stdout("feed_cases", [("own", [(name, line) for name, _, _, line in FEED])])
+    write_cases("card_cases", "own_fed.cases", (bytes([edition]) + number(len(calls)) + calls for edition, calls in fed))
 
 
 if __name__ == "__main__":

@@ -1,19 +1,14 @@
 #!/usr/bin/env python3
-"""Our own cases of the field question, written by hand from document 01.
-
-    tests/field_cases.py           write the files below
-    tests/field_cases.py --list    and print where in `stdout` each case stands, its name and its answer
-
-It writes
-    crates/field_cases/data/own.cases    field number (4 bytes), length (4), the lone record
-and what stands behind the line `own` in crates/field_cases/stdout.
+"""Our own cases of the field question, written by hand from document 01. Used by tests/card_cases.py, which writes
+    crates/card_cases/data/own_fields.cases    field number (4 bytes), length (4), the lone record
+and their lines behind `own, fields` in crates/card_cases/stdout.
 
 A case is a name, a field number, a record, and what document 01 gives it: the bytes of the part, or the line of a refusal. They are written here
 by hand; only the hash that stands for a part's bytes is computed. No program under test was asked for an answer.
 
 A line is `P length hash` of the part handed back, or `R number record column`.
 """
-from stored import hashed, number, run, write_cases, write_stdout
+from stored import hashed, number
 
 # ---- The record's fields, 1 to 26 ------------------------------------------------------------------------------------------------------------
 
@@ -46,7 +41,7 @@ CASES += [
     ("nor is a card with letters", 12, CV[:87] + b"NOT A CARD AT ALL!!" + CV[106:], b"00000009750"),
 ]
 
-# ---- Writing them ------------------------------------------------------------------------------------------------------------------------------
+# ---- How they are stored ---------------------------------------------------------------------------------------------------------------------
 
 
 def line(answer):
@@ -54,10 +49,5 @@ def line(answer):
     return answer if isinstance(answer, str) else f"P {len(answer)} {hashed(answer)}"
 
 
-def main():
-    write_cases("field_cases", "own.cases", (number(field) + number(len(record)) + record for _, field, record, _ in CASES))
-    write_stdout("field_cases", [("own", [(name, line(answer)) for name, _, _, answer in CASES])])
-
-
-if __name__ == "__main__":
-    run(main, __doc__)
+STORED = [number(field) + number(len(record)) + record for _, field, record, _ in CASES]
+LINES = [(name, line(answer)) for name, _, _, answer in CASES]

@@ -23,10 +23,10 @@ def hashed(content):
     return h
 
 
-def outside(crate):
-    """The names and lines of a crate's outside cases, which its `stdout` begins with."""
+def outside(crate, way=""):
+    """The names and lines of a crate's outside cases in a way, which stand in its `stdout` before our own."""
     there = (CRATES / crate / "stdout").read_text().split("\n")
-    return [(f"outside case {i}", line) for i, line in enumerate(there[1:there.index("own")], 1)]
+    return [(f"outside case {i}", line) for i, line in enumerate(there[there.index("outside" + way) + 1:there.index("own" + way)], 1)]
 
 
 def cut_at_every_place(cases, longest):

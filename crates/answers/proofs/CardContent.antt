@@ -10,14 +10,13 @@ use Rattle.calendar.specs.Time.{isTime}
 use Rattle.calendar.specs.When.{whenRules}
 use Rattle.pan.specs.CardField.{wellFormed}
 use Rattle.card_content.specs.Content.{inSet, contentRules}
-use Rattle.card_content.specs.Field.{plainNumber}
 use Rattle.answers.proofs.Observed.{faultNumber, faultColumn}
 use base.Fml.{Lft}
 use Rattle.answers.specs.CardContent.{CardContent}
 use Rattle.answers.proofs.Told.{equal, told, bit, same-part}
 
 pub card-content : (κ : Lft) → CardContent κ
-unfolding firstBroken allowed holdsOnly valueFrom sameBytes hasByte oneByteOf daysIn isDay isTime whenRules wellFormed inSet contentRules plainNumber
+unfolding firstBroken allowed holdsOnly valueFrom sameBytes hasByte oneByteOf daysIn isDay isTime whenRules wellFormed inSet contentRules
 card-content κ =
     record {
       is-in-set = λ κs a r r' s s' p q. equal p q;

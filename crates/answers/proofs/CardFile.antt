@@ -1,4 +1,4 @@
--- The contracts of a card file, whole and in chunks, are held to one answer, and rule wrong ones out, by computation.
+-- The contracts of a card file, step by step, whole and in chunks, are held to one answer, and rule wrong ones out, by computation.
 use mathlib.Core.Path.{refl}
 use Rattle.refusal.specs.Rules.{firstBroken}
 use Rattle.text.specs.Alphabet.{allowed, holdsOnly}
@@ -10,15 +10,20 @@ use Rattle.calendar.specs.Time.{isTime}
 use Rattle.calendar.specs.When.{whenRules}
 use Rattle.pan.specs.CardField.{wellFormed}
 use Rattle.card_content.specs.Content.{inSet, contentRules}
-use Rattle.card_content.specs.Field.{plainNumber, tableRules, recordRules}
+use Rattle.card_content.specs.Field.{tableRules, recordRules}
 use Rattle.card_sale.specs.Cv.{joinedRules}
 use Rattle.card_record.specs.Kind.{kindNamed}
-use Rattle.card_record.specs.Reading.{numbersOf, judgedAs, readFound}
+use Rattle.card_record.specs.Reading.{rightReading, judgedAs, readFound}
 use Rattle.card_run.specs.Answer.{answerAt}
-use Rattle.card_run.specs.Running.{joinedAt, runRules, behind, settled, tookAt, closedAt}
+use Rattle.card_run.specs.Running.{closedAt, lateAt}
+use Rattle.card_step.specs.Rules.{joinedAt, rulesOf}
+use Rattle.card_step.specs.Behind.{behind}
+use Rattle.card_step.specs.Step.{behindOrRefused, tookAt}
+use Rattle.edition.specs.Known.{known}
+use Rattle.card_file.specs.Room.{answerWithRoom}
 use Rattle.lines.specs.Lines.{inFront, cut, joined, endsInCr, withoutLast}
 use Rattle.card_file.specs.CardFile.{unendedAt, linesOf, endOf}
-use Rattle.chunks.specs.Unfinished.{keptWith}
+use Rattle.chunks.specs.Unfinished.{clippedWith}
 use Rattle.chunks.specs.Chunks.{heldBefore}
 use Rattle.card_stream.specs.Stream.{behindEnd, withHeld}
 use Rattle.answers.proofs.Observed.{stageRead, answerRead}
@@ -28,9 +33,17 @@ use Rattle.answers.specs.CardFile.{CardFile}
 use Rattle.answers.proofs.Told.{equal, told}
 
 pub card-file : (κ : Lft) → CardFile κ
-unfolding firstBroken allowed holdsOnly valueFrom sameBytes hasByte oneByteOf daysIn isDay isTime whenRules wellFormed inSet contentRules plainNumber tableRules recordRules joinedRules kindNamed numbersOf judgedAs readFound answerAt joinedAt runRules behind settled tookAt closedAt inFront cut joined endsInCr withoutLast unendedAt linesOf endOf keptWith heldBefore behindEnd withHeld
+unfolding known answerWithRoom firstBroken allowed holdsOnly valueFrom sameBytes hasByte oneByteOf daysIn isDay isTime whenRules wellFormed inSet contentRules tableRules recordRules joinedRules kindNamed rightReading judgedAs readFound answerAt joinedAt rulesOf behind behindOrRefused tookAt closedAt inFront cut joined endsInCr withoutLast unendedAt linesOf endOf clippedWith heldBefore behindEnd withHeld lateAt
 card-file κ =
     record {
+      took = λ κs a r r' s s' p q. equal p q;
+      took-nodded = (refl, told (λ st. stageRead (st .stage)) refl);
+      took-not-added = (refl, told (λ st. st .numbers .totals .amounts .gross) refl);
+      took-behind-a9 = (refl, told (λ st. stageRead (st .stage)) refl);
+      feed = λ κs a r r' s s' p q. equal p q;
+      feed-disagreeing = (refl, told (λ st. stageRead (st .stage)) refl);
+      feed-l9 = (refl, told (λ st. stageRead (st .stage)) refl);
+      feed-refused = (refl, told (λ st. stageRead (st .stage)) refl);
       take-line = λ κs a r r' s s' p q. equal p q;
       line-without-cr = (refl, told (λ st. stageRead (st .stage)) refl);
       line-with-cr = (refl, told (λ st. stageRead (st .stage)) refl);
@@ -45,6 +58,10 @@ card-file κ =
       check-258 = (refl, told answerRead refl);
       check-version = (refl, told answerRead refl);
       check-behind-a9 = (refl, told answerRead refl);
+      with-room = λ κs a r r' s s' p q. equal p q;
+      with-room-edition = (refl, told answerRead refl);
+      with-room-first = (refl, told answerRead refl);
+      with-room-exact = (refl, told answerRead refl);
       stream-open = λ κs a r r' s s' p q. equal p q;
       stream-open-3 = (refl, told (λ s. stageRead (s .state .stage)) refl);
       stream-open-byte = (refl, told (λ s. s .held .length) refl);

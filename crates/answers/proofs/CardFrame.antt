@@ -10,14 +10,14 @@ use Rattle.calendar.specs.Time.{isTime}
 use Rattle.calendar.specs.When.{whenRules}
 use Rattle.pan.specs.CardField.{wellFormed}
 use Rattle.card_content.specs.Content.{inSet, contentRules}
-use Rattle.card_content.specs.Field.{plainNumber, tableRules, recordRules}
+use Rattle.card_content.specs.Field.{tableRules, recordRules}
 use Rattle.answers.proofs.Observed.{faultNumber}
 use base.Fml.{Lft}
 use Rattle.answers.specs.CardFrame.{CardFrame}
 use Rattle.answers.proofs.Told.{equal, told, bit}
 
 pub card-frame : (κ : Lft) → CardFrame κ
-unfolding firstBroken allowed holdsOnly valueFrom sameBytes hasByte oneByteOf daysIn isDay isTime whenRules wellFormed inSet contentRules plainNumber tableRules recordRules
+unfolding firstBroken allowed holdsOnly valueFrom sameBytes hasByte oneByteOf daysIn isDay isTime whenRules wellFormed inSet contentRules tableRules recordRules
 card-frame κ =
     record {
       a0-fault = λ κs a r r' s s' p q. equal p q;

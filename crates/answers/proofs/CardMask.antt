@@ -10,12 +10,16 @@ use Rattle.calendar.specs.Time.{isTime}
 use Rattle.calendar.specs.When.{whenRules}
 use Rattle.pan.specs.CardField.{wellFormed}
 use Rattle.card_content.specs.Content.{inSet, contentRules}
-use Rattle.card_content.specs.Field.{plainNumber, tableRules, recordRules}
+use Rattle.card_content.specs.Field.{tableRules, recordRules}
 use Rattle.card_sale.specs.Cv.{joinedRules}
 use Rattle.card_record.specs.Kind.{kindNamed}
-use Rattle.card_record.specs.Reading.{numbersOf, judgedAs, readFound}
+use Rattle.card_record.specs.Reading.{rightReading, judgedAs, readFound}
 use Rattle.card_run.specs.Answer.{answerAt}
-use Rattle.card_run.specs.Running.{joinedAt, runRules, behind, settled, tookAt, closedAt}
+use Rattle.edition.specs.Known.{known}
+use Rattle.card_run.specs.Running.{closedAt, lateAt}
+use Rattle.card_step.specs.Rules.{joinedAt, rulesOf}
+use Rattle.card_step.specs.Behind.{behind}
+use Rattle.card_step.specs.Step.{behindOrRefused, tookAt}
 use Rattle.lines.specs.Lines.{inFront, cut, joined, endsInCr, withoutLast}
 use Rattle.card_file.specs.CardFile.{unendedAt, linesOf, endOf}
 use lib.ListN.{getD}
@@ -23,20 +27,21 @@ use Rattle.lines.specs.Lines.{rejoined}
 use Rattle.pan.specs.CardField.{leadingZeros}
 use Rattle.pan.specs.HiddenPlaces.{hiddenPlaces}
 use Rattle.pan.specs.Masked.{starWhere}
-use Rattle.card_record.specs.CardPart.{cardPartIn}
+use Rattle.card_record.specs.CardPart.{cardPartFound}
 use Rattle.card_mask.specs.Masked.{maskedAt}
-use Rattle.card_mask.specs.Mask.{maskAnswer, maskedInto}
-use Rattle.card_field.specs.Field.{refusalOf, partAs, placeAs}
+use Rattle.card_file.specs.Room.{answerWithRoom}
+use Rattle.card_mask.specs.Mask.{maskedInto}
+use Rattle.sale_field.specs.Field.{refusalOf, partAs, placeAs}
 use Rattle.day_sheet.specs.Number.{inBase}
 use Rattle.day_sheet.specs.Layout.{inPlaces}
-use Rattle.card_sheet.specs.SheetOf.{sheetAnswer, sheetInto}
+use Rattle.card_sheet.specs.SheetOf.{sheetInto}
 use Rattle.answers.proofs.Observed.{answerRead, fieldRead}
 use base.Fml.{Lft}
 use Rattle.answers.specs.CardMask.{CardMask}
 use Rattle.answers.proofs.Told.{equal, told, same-part}
 
 pub card-mask : (κ : Lft) → CardMask κ
-unfolding firstBroken allowed holdsOnly valueFrom sameBytes hasByte oneByteOf daysIn isDay isTime whenRules wellFormed inSet contentRules plainNumber tableRules recordRules joinedRules kindNamed numbersOf judgedAs readFound answerAt joinedAt runRules behind settled tookAt closedAt inFront cut joined endsInCr withoutLast unendedAt linesOf endOf rejoined leadingZeros hiddenPlaces starWhere cardPartIn maskedAt maskAnswer maskedInto refusalOf partAs placeAs inBase inPlaces sheetAnswer sheetInto
+unfolding known firstBroken allowed holdsOnly valueFrom sameBytes hasByte oneByteOf daysIn isDay isTime whenRules wellFormed inSet contentRules tableRules recordRules joinedRules kindNamed rightReading judgedAs readFound answerAt joinedAt rulesOf behind behindOrRefused tookAt closedAt inFront cut joined endsInCr withoutLast unendedAt linesOf endOf rejoined leadingZeros hiddenPlaces starWhere cardPartFound maskedAt answerWithRoom maskedInto refusalOf partAs placeAs inBase inPlaces sheetInto lateAt
 card-mask κ =
     record {
       mask-lines = λ κs a r r' s s' p q. (equal (p .counts) (q .counts), equal (p .leaves) (q .leaves));

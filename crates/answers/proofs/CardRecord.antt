@@ -10,23 +10,26 @@ use Rattle.calendar.specs.Time.{isTime}
 use Rattle.calendar.specs.When.{whenRules}
 use Rattle.pan.specs.CardField.{wellFormed}
 use Rattle.card_content.specs.Content.{inSet, contentRules}
-use Rattle.card_content.specs.Field.{plainNumber, tableRules, recordRules}
-use Rattle.card_record.specs.CardPart.{cardPartIn}
+use Rattle.card_content.specs.Field.{tableRules, recordRules}
+use Rattle.card_record.specs.CardPart.{cardPartFound}
 use Rattle.card_record.specs.Kind.{kindNamed}
-use Rattle.card_record.specs.Reading.{numbersOf, judgedAs, readFound}
+use Rattle.card_record.specs.Reading.{rightReading, judgedAs, readFound}
 use Rattle.answers.proofs.Observed.{kindRead, cardPlace, readingRead}
 use base.Fml.{Lft}
 use Rattle.answers.specs.CardRecord.{CardRecord}
 use Rattle.answers.proofs.Told.{equal, told}
 
 pub card-record : (κ : Lft) → CardRecord κ
-unfolding firstBroken allowed holdsOnly valueFrom sameBytes hasByte oneByteOf daysIn isDay isTime whenRules wellFormed inSet contentRules plainNumber tableRules recordRules cardPartIn kindNamed numbersOf judgedAs readFound
+unfolding firstBroken allowed holdsOnly valueFrom sameBytes hasByte oneByteOf daysIn isDay isTime whenRules wellFormed inSet contentRules tableRules recordRules cardPartFound kindNamed rightReading judgedAs readFound
 card-record κ =
     record {
       kind-of = λ κs a r r' s s' p q. equal p q;
       kind-aj = (refl, told kindRead refl);
       kind-one-byte = (refl, told kindRead refl);
       kind-small = (refl, told kindRead refl);
+      kind-width = λ κs a r r' s s' p q. equal p q;
+      width-for-all = (refl, told (λ n. n) refl);
+      width-line-end = (refl, told (λ n. n) refl);
       card-part = λ κs a r r' s s' p q. equal p q;
       card-from-one = (refl, told cardPlace refl);
       card-longer = (refl, told cardPlace refl);

@@ -10,7 +10,7 @@ use Rattle.calendar.specs.Time.{isTime}
 use Rattle.calendar.specs.When.{whenRules}
 use Rattle.pan.specs.CardField.{wellFormed}
 use Rattle.card_content.specs.Content.{inSet, contentRules}
-use Rattle.card_content.specs.Field.{plainNumber, tableRules, recordRules}
+use Rattle.card_content.specs.Field.{tableRules, recordRules}
 use Rattle.card_sale.specs.Cv.{joinedRules}
 use Rattle.answers.proofs.Observed.{faultNumber, faultColumn}
 use base.Fml.{Lft}
@@ -18,7 +18,7 @@ use Rattle.answers.specs.CardSale.{CardSale}
 use Rattle.answers.proofs.Told.{equal, told, bit}
 
 pub card-sale : (κ : Lft) → CardSale κ
-unfolding firstBroken allowed holdsOnly valueFrom sameBytes hasByte oneByteOf daysIn isDay isTime whenRules wellFormed inSet contentRules plainNumber tableRules recordRules joinedRules
+unfolding firstBroken allowed holdsOnly valueFrom sameBytes hasByte oneByteOf daysIn isDay isTime whenRules wellFormed inSet contentRules tableRules recordRules joinedRules
 card-sale κ =
     record {
       fault = λ κs a r r' s s' p q. equal p q;

@@ -1,4 +1,4 @@
--- The contracts of the day sheet and of an edition's word are held to one answer, and rule wrong ones out, by computation.
+-- The contracts of the day sheet and of an edition are held to one answer, and rule wrong ones out, by computation.
 use mathlib.Core.Path.{refl}
 use lib.ListN.{getD}
 use Rattle.text.specs.Alphabet.{allowed, holdsOnly}
@@ -6,6 +6,7 @@ use Rattle.text.specs.Number.{valueFrom}
 use Rattle.text.specs.Literal.{sameBytes}
 use Rattle.calendar.specs.Month.{daysIn}
 use Rattle.calendar.specs.Day.{isDay}
+use Rattle.edition.specs.Known.{known}
 use Rattle.day_sheet.specs.Number.{inBase, valueIn}
 use Rattle.day_sheet.specs.Layout.{inPlaces, fromPlaces}
 use Rattle.day_sheet.specs.Sheet.{totalsAllowed, sheetAllowed}
@@ -16,7 +17,7 @@ use Rattle.answers.specs.DaySheet.{DaySheet}
 use Rattle.answers.proofs.Told.{equal, told, bit}
 
 pub day-sheet : (κ : Lft) → DaySheet κ
-unfolding allowed holdsOnly valueFrom sameBytes daysIn isDay inBase valueIn inPlaces fromPlaces totalsAllowed sheetAllowed readNumbers readOf writeAnswer writeResult
+unfolding known allowed holdsOnly valueFrom sameBytes daysIn isDay inBase valueIn inPlaces fromPlaces totalsAllowed sheetAllowed readNumbers readOf writeAnswer writeResult
 day-sheet κ =
     record {
       puts = λ κs a r r' s s' p q. (refl, equal p q);
@@ -36,6 +37,9 @@ day-sheet κ =
       write-past = (record { answers = refl; leaves = refl }, λ p. told (λ s. getD s 52 0) refl (p .leaves));
       write-order = (record { answers = refl; leaves = refl }, λ p. told sheetWritten refl (p .answers));
       write-short = (record { answers = refl; leaves = refl }, λ p. told (λ s. getD s 0 0) refl (p .leaves));
+      is-known = λ κs a r r' s s' p q. equal p q;
+      is-known-258 = (refl, told bit refl);
+      is-known-1 = (refl, told bit refl);
       edition-of = λ κs a r r' s s' p q. equal p q;
       edition-wraps = (refl, told editionRead refl);
       edition-nothing = (refl, told editionRead refl);

@@ -13,27 +13,26 @@ use Rattle.pan.specs.CardField.{wellFormed, leadingZeros}
 use Rattle.pan.specs.HiddenPlaces.{hiddenPlaces}
 use Rattle.lines.specs.Lines.{inFront, cut, joined, endsInCr, withoutLast}
 use Rattle.card_content.specs.Content.{inSet, contentRules}
-use Rattle.card_content.specs.Field.{plainNumber, tableRules, recordRules}
+use Rattle.card_content.specs.Field.{tableRules, recordRules}
 use Rattle.card_sale.specs.Cv.{joinedRules}
-use Rattle.card_record.specs.CardPart.{cardPartIn}
+use Rattle.card_record.specs.CardPart.{cardPartFound}
 use Rattle.card_record.specs.Kind.{kindNamed}
-use Rattle.card_record.specs.Reading.{numbersOf, judgedAs, readFound}
+use Rattle.card_record.specs.Reading.{rightReading, judgedAs, readFound}
 use Rattle.card_run.specs.Answer.{answerAt, rowOf}
-use Rattle.card_run.specs.Running.{joinedAt, runRules, behind, settled, tookAt, closedAt}
+use Rattle.edition.specs.Known.{known}
+use Rattle.card_run.specs.Running.{closedAt, lateAt}
+use Rattle.card_step.specs.Rules.{joinedAt, rulesOf}
+use Rattle.card_step.specs.Behind.{behind}
+use Rattle.card_step.specs.Step.{behindOrRefused, tookAt}
 use Rattle.card_file.specs.CardFile.{unendedAt, linesOf, endOf}
 use Rattle.card_kept.proofs.KeptMeansKept.{kept-means-kept}
 use Rattle.payroll_record.specs.Field.{numberRules}
 use Rattle.payroll_record.specs.Front.{strayAt}
 use Rattle.payroll_record.specs.Kind.{segmentNamed, kindNamed as payrollKindNamed}
 use Rattle.payroll_record.specs.Reading.{readAs, readFound as payrollReadFound}
-use Rattle.payroll_run.specs.Running.{
-  foundRules,
-  runRules as payrollRunRules,
-  behindDetailAs,
-  behind as payrollBehind,
-  settled as payrollSettled,
-  tookAt as payrollTookAt,
-}
+use Rattle.payroll_step.specs.Rules.{foundRules, dueRules, rulesOf as payrollRunRules}
+use Rattle.payroll_run.specs.Behind.{behindDetailAs, behind as payrollBehind}
+use Rattle.payroll_step.specs.Step.{behindOrRefused as payrollBehindOrRefused, tookAt as payrollTookAt}
 use Rattle.payroll_file.specs.PayrollFile.{
   unendedAt as payrollUnendedAt,
   linesOf as payrollLinesOf,
@@ -42,7 +41,7 @@ use Rattle.payroll_file.specs.PayrollFile.{
   endAt,
 }
 use Rattle.payroll_kept.proofs.KeptMeansKept as payroll-law
-use Rattle.demands.specs.FirstFault.{isAccepted}
+use Rattle.card_kept.specs.FirstFault.{isAccepted}
 use Rattle.demands.specs.HiddenDigits.{hiddenAt, hiddenInPieces}
 use Rattle.demands.specs.LentBuffers.{AllZero}
 use Rattle.answers.specs.Definitions.{Definitions}
@@ -50,7 +49,7 @@ use Rattle.answers.proofs.Told.{told, bit}
 use Rattle.answers.proofs.Observed.{payrollAnswerRead}
 
 pub definitions : Definitions
-unfolding firstBroken allowed holdsOnly firstStray valueFrom sameBytes hasByte oneByteOf daysIn isDay isTime whenRules wellFormed leadingZeros hiddenPlaces inFront cut joined endsInCr withoutLast inSet contentRules plainNumber tableRules recordRules joinedRules cardPartIn kindNamed numbersOf judgedAs readFound answerAt rowOf joinedAt runRules behind settled tookAt closedAt unendedAt linesOf endOf numberRules strayAt segmentNamed payrollKindNamed readAs payrollReadFound foundRules payrollRunRules behindDetailAs payrollBehind payrollSettled payrollTookAt payrollUnendedAt payrollLinesOf endedOf cutShortOf endAt hiddenAt hiddenInPieces AllZero
+unfolding known firstBroken allowed holdsOnly firstStray valueFrom sameBytes hasByte oneByteOf daysIn isDay isTime whenRules wellFormed leadingZeros hiddenPlaces inFront cut joined endsInCr withoutLast inSet contentRules tableRules recordRules joinedRules cardPartFound kindNamed rightReading judgedAs readFound answerAt rowOf joinedAt rulesOf behind behindOrRefused tookAt closedAt unendedAt linesOf endOf numberRules strayAt segmentNamed payrollKindNamed readAs payrollReadFound foundRules dueRules payrollRunRules behindDetailAs payrollBehind payrollBehindOrRefused payrollTookAt payrollUnendedAt payrollLinesOf endedOf cutShortOf endAt hiddenAt hiddenInPieces AllZero lateAt
 definitions =
     record {
       kept-other-card = kept-means-kept 2 _ .0 (record { numbers = _; answer = refl });
@@ -66,5 +65,5 @@ definitions =
       rules-place-first = refl;
       refused-at-once = refl;
       refused-not-before = refl;
-      accepted-not-alone = λ alone. told (λ n. n) refl (alone .counts .0);
+      accepted-not-alone = λ alone. told (λ n. n) refl (alone .zero .0);
     }

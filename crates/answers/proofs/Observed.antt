@@ -33,8 +33,8 @@ use Rattle.card_run.specs.declared.stage.Stage.{Stage}
 use Rattle.card_run.specs.declared.stage.Stage.the-variants.{Start, BetweenBatches, InBatch, Ended, Closed, Refused}
 use Rattle.card_run.specs.declared.answer.CardAnswer.{CardAnswer}
 use Rattle.card_run.specs.declared.answer.CardAnswer.the-variants.{GoingOn, Accepted, Refused as refused}
-use Rattle.card_field.specs.declared.FieldAnswer.{FieldAnswer}
-use Rattle.card_field.specs.declared.FieldAnswer.the-variants.{Offered, Refused as notOffered}
+use Rattle.sale_field.specs.declared.FieldAnswer.{FieldAnswer}
+use Rattle.sale_field.specs.declared.FieldAnswer.the-variants.{Offered, Refused as notOffered}
 use Rattle.payroll_record.specs.declared.kind.Kind.{Kind as PayrollKind}
 use Rattle.payroll_record.specs.declared.kind.Kind.the-variants.{FileHeader, BatchHeader, SegmentA, SegmentB, SegmentZ, BatchTrailer, FileTrailer}
 use Rattle.payroll_record.specs.declared.kind.KindFound.{KindFound as PayrollKindFound}

@@ -11,10 +11,12 @@ use Rattle.payroll_record.specs.Field.{numberRules}
 use Rattle.payroll_record.specs.Front.{strayAt}
 use Rattle.payroll_record.specs.Kind.{segmentNamed, kindNamed}
 use Rattle.payroll_record.specs.Reading.{readAs, readFound}
-use Rattle.payroll_run.specs.Running.{foundRules, runRules, behindDetailAs, behind, settled, tookAt}
+use Rattle.payroll_step.specs.Rules.{foundRules, dueRules, rulesOf}
+use Rattle.payroll_run.specs.Behind.{behindDetailAs, behind}
+use Rattle.payroll_step.specs.Step.{behindOrRefused, tookAt}
 use Rattle.lines.specs.Lines.{inFront, cut, joined, endsInCr, withoutLast}
 use Rattle.payroll_file.specs.PayrollFile.{unendedAt, linesOf, endedOf, cutShortOf, endAt}
-use Rattle.chunks.specs.Unfinished.{keptWith}
+use Rattle.chunks.specs.Unfinished.{clippedWith}
 use Rattle.chunks.specs.Chunks.{heldBefore}
 use Rattle.payroll_stream.specs.Stream.{behindEnd, takenBehindEnd, takenAt, endedAt, soFar, answerAt}
 use Rattle.answers.proofs.Observed.{payrollStageRead, payrollAnswerRead, payrollAmountRead, progressRead}
@@ -23,18 +25,25 @@ use Rattle.answers.specs.PayrollFile.{PayrollFile}
 use Rattle.answers.proofs.Told.{equal, told, bit}
 
 pub payroll-file : (κ : Lft) → PayrollFile κ
-unfolding firstBroken allowed holdsOnly firstStray valueFrom sameBytes hasByte oneByteOf daysIn isDay whenRules numberRules strayAt segmentNamed kindNamed readAs readFound foundRules runRules behindDetailAs behind settled tookAt inFront cut joined endsInCr withoutLast unendedAt linesOf endedOf cutShortOf endAt keptWith heldBefore behindEnd takenBehindEnd takenAt endedAt soFar answerAt
+unfolding firstBroken allowed holdsOnly firstStray valueFrom sameBytes hasByte oneByteOf daysIn isDay whenRules numberRules strayAt segmentNamed kindNamed readAs readFound foundRules dueRules rulesOf behindDetailAs behind behindOrRefused tookAt inFront cut joined endsInCr withoutLast unendedAt linesOf endedOf cutShortOf endAt clippedWith heldBefore behindEnd takenBehindEnd takenAt endedAt soFar answerAt
 payroll-file κ =
     record {
       opens = λ κs a r r' s s' p q. equal p q;
       opens-in-batch = (refl, told (λ st. payrollStageRead (st .stage)) refl);
       opens-counted = (refl, told (λ st. st .records) refl);
+      next-number = λ κs a r r' s s' p q. equal p q;
+      next-number-before = (refl, told (λ n. n) refl);
+      next-number-wrapped = (refl, told (λ n. n) refl);
       refusal-of = λ κs a r r' s s' p q. equal p q;
       refusal-before = (refl, told (λ r. r .«record») refl);
       refusal-column = (refl, told (λ r. r .column) refl);
       refuses = λ κs a r r' s s' p q. equal p q;
       refuses-forgotten = (refl, told (λ st. payrollStageRead (st .stage)) refl);
       refuses-counted = (refl, told (λ st. st .records) refl);
+      behind = λ κs a r r' s s' p q. equal p q;
+      behind-not-added = (refl, told (λ st. st .amount) refl);
+      behind-wrapped = (refl, told (λ st. st .amount) refl);
+      behind-not-counted = (refl, told (λ st. st .records) refl);
       took = λ κs a r r' s s' p q. equal p q;
       took-nodded = (refl, told (λ st. payrollStageRead (st .stage)) refl);
       took-wrapped = (refl, told (λ st. st .amount) refl);

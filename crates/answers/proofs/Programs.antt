@@ -21,26 +21,25 @@ use Rattle.lines.specs.Lines.{inFront, cut, joined, endsInCr, withoutLast}
 use Rattle.edition.specs.Edition.{editionOf}
 use Rattle.edition.specs.declared.Edition.the-variants.{NoNumber}
 use Rattle.card_content.specs.Content.{inSet, contentRules}
-use Rattle.card_content.specs.Field.{plainNumber, tableRules, recordRules}
+use Rattle.card_content.specs.Field.{tableRules, recordRules}
 use Rattle.card_sale.specs.Cv.{joinedRules}
 use Rattle.card_record.specs.Kind.{kindNamed}
-use Rattle.card_record.specs.Reading.{numbersOf, judgedAs, readFound}
+use Rattle.card_record.specs.Reading.{rightReading, judgedAs, readFound}
 use Rattle.card_run.specs.Answer.{answerAt}
-use Rattle.card_run.specs.Running.{joinedAt, runRules, behind, settled, tookAt, closedAt}
+use Rattle.edition.specs.Known.{known}
+use Rattle.card_run.specs.Running.{closedAt, lateAt}
+use Rattle.card_step.specs.Rules.{joinedAt, rulesOf}
+use Rattle.card_step.specs.Behind.{behind}
+use Rattle.card_step.specs.Step.{behindOrRefused, tookAt}
 use Rattle.card_file.specs.CardFile.{unendedAt, linesOf, endOf, checkOf}
 use Rattle.card_kept.proofs.KeptMeansKept.{kept-means-kept, plain-numbers}
 use Rattle.payroll_record.specs.Field.{numberRules}
 use Rattle.payroll_record.specs.Front.{strayAt}
 use Rattle.payroll_record.specs.Kind.{segmentNamed, kindNamed as payrollKindNamed}
 use Rattle.payroll_record.specs.Reading.{readAs, readFound as payrollReadFound}
-use Rattle.payroll_run.specs.Running.{
-  foundRules,
-  runRules as payrollRunRules,
-  behindDetailAs,
-  behind as payrollBehind,
-  settled as payrollSettled,
-  tookAt as payrollTookAt,
-}
+use Rattle.payroll_step.specs.Rules.{foundRules, dueRules, rulesOf as payrollRunRules}
+use Rattle.payroll_run.specs.Behind.{behindDetailAs, behind as payrollBehind}
+use Rattle.payroll_step.specs.Step.{behindOrRefused as payrollBehindOrRefused, tookAt as payrollTookAt}
 use Rattle.payroll_file.specs.PayrollFile.{linesOf as payrollLinesOf, endedOf, endAt, checkOf as payrollCheckOf}
 use Rattle.payroll_file.specs.declared.answer.Accepted.{Accepted as PayrollNumbers}
 use Rattle.payroll_file.specs.declared.answer.PayrollAnswer.the-variants.{Accepted as accepted-payroll}
@@ -51,7 +50,7 @@ use Rattle.day_sheet.specs.Layout.{bytesOf, inPlaces, fromPlaces}
 use Rattle.day_sheet.specs.Sheet.{totalsAllowed, sheetAllowed}
 use Rattle.day_sheet.specs.Reading.{readNumbers, readOf}
 use Rattle.day_sheet.proofs.RoundTrip.{read-allowed}
-use Rattle.demands.proofs.FirstFault.{edition-first}
+use Rattle.card_kept.proofs.FirstFault.{edition-first}
 use Rattle.answers.specs.DaySheet.{sheetOf}
 use Rattle.answers.specs.CardRun.{oneSale, accepted}
 use Rattle.answers.specs.Programs.{Programs, madeUp}
@@ -74,7 +73,8 @@ disagreeing bytes e =
 
 -- under edition 3 no file is accepted
 of-edition-3 : (bytes : List ℕ) → accepted 5 1 oneSale ≡ checkOf 3 bytes → ⊥
-of-edition-3 bytes e = told answerRead refl (e ∙ edition-first 3 (told (λ n. n) refl) (told (λ n. n) refl) bytes)
+unfolding known
+of-edition-3 bytes e = told answerRead refl (e ∙ edition-first 3 refl bytes)
 
 -- the numbers of every accepted payroll file are the plain ones of its records
 plain : (bytes : List ℕ) (a : PayrollNumbers) (e : accepted-payroll a ≡ payrollCheckOf bytes) →
@@ -82,7 +82,7 @@ plain : (bytes : List ℕ) (a : PayrollNumbers) (e : accepted-payroll a ≡ payr
 plain bytes a e = payroll.plain-numbers bytes a (sym e) (payroll.kept-means-kept bytes .0 (record { numbers = a; answer = sym e }))
 
 pub programs : (κ : Lft) (fd : ℤ) → Programs κ fd
-unfolding firstBroken allowed holdsOnly firstStray valueFrom sameBytes hasByte oneByteOf daysIn isDay isTime whenRules wellFormed inFront cut joined endsInCr withoutLast inSet contentRules plainNumber tableRules recordRules joinedRules kindNamed numbersOf judgedAs readFound answerAt joinedAt runRules behind settled tookAt closedAt unendedAt linesOf endOf numberRules strayAt segmentNamed payrollKindNamed readAs payrollReadFound foundRules payrollRunRules behindDetailAs payrollBehind payrollSettled payrollTookAt payrollLinesOf endedOf endAt inBase valueIn inPlaces fromPlaces totalsAllowed sheetAllowed readNumbers readOf
+unfolding known firstBroken allowed holdsOnly firstStray valueFrom sameBytes hasByte oneByteOf daysIn isDay isTime whenRules wellFormed inFront cut joined endsInCr withoutLast inSet contentRules tableRules recordRules joinedRules kindNamed rightReading judgedAs readFound answerAt joinedAt rulesOf behind behindOrRefused tookAt closedAt unendedAt linesOf endOf numberRules strayAt segmentNamed payrollKindNamed readAs payrollReadFound foundRules dueRules payrollRunRules behindDetailAs payrollBehind payrollBehindOrRefused payrollTookAt payrollLinesOf endedOf endAt inBase valueIn inPlaces fromPlaces totalsAllowed sheetAllowed readNumbers readOf lateAt
 programs κ fd =
     record {
       read-some-room = ((omega arith, omega arith), λ p. omega arith);

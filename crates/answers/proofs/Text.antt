@@ -1,7 +1,8 @@
 -- The contracts of `text` are held to one answer, and rule wrong ones out, by computation.
 use mathlib.Core.Path.{refl}
 use Rattle.text.specs.Alphabet.{allowed, holdsOnly, firstStray}
-use Rattle.text.specs.Number.{valueFrom, weighed, zerosWeighed}
+use Rattle.text.specs.Number.{valueFrom}
+use Rattle.text.specs.Weighed.{weighed, zerosWeighed}
 use Rattle.text.specs.Literal.{sameBytes, hasByte, oneByteOf}
 use Rattle.answers.proofs.Observed.{strayPlace, numberRead}
 use base.Fml.{Lft}

@@ -1,19 +1,35 @@
--- What the contracts of a card file, whole and in chunks, are held to. Behind a function's name: the wrong programs that are ruled out.
+-- What the contracts of a card file, step by step, whole and in chunks, are held to. Behind a function's name: the wrong programs that are ruled out.
 use Prim.Native.Nat.{ℕ}
 use mathlib.Core.List.{List, [], _++_}
 use lib.ListN.{take, drop, replicate}
 use Rattle.text.specs.Literal.{ascii}
-use Rattle.refusal.specs.declared.Cause.the-variants.{EditionUnknown, NoLineEnd, ValueNotAllowed, SequenceWrong, EndsTooEarly, BytesAfterTheEnd}
+use Rattle.refusal.specs.declared.Cause.the-variants.{
+  EditionUnknown,
+  OutputTooShort,
+  NoLineEnd,
+  KindUnknown,
+  ValueNotAllowed,
+  SequenceWrong,
+  AmountsDisagree,
+  TrailerDisagrees,
+  EndsTooEarly,
+  BytesAfterTheEnd,
+}
 use Rattle.chunks.specs.Unfinished.{holding}
 use Rattle.chunks.specs.declared.Unfinished.{Unfinished}
-use Rattle.card_run.specs.declared.stage.Stage.the-variants.{Start, InBatch, Ended, Closed, Refused}
+use Rattle.card_run.specs.declared.stage.Stage.the-variants.{Start, BetweenBatches, InBatch, Ended, Closed, Refused}
 use Rattle.card_run.specs.declared.running.Running.{Running}
 use Rattle.card_run.specs.declared.answer.CardAnswer.the-variants.{GoingOn, Refused as refused}
 use Rattle.card_stream.specs.declared.Stream.{Stream}
+use Rattle.card_record.specs.declared.reading.Reading.the-variants.{Cv as saleRead}
 use Rattle.answers.specs.Totals.{amounts, totalsOf}
-use Rattle.answers.specs.CardRun.{state, refusal, noSale, oneSale, accepted, opened}
-use Rattle.answers.specs.Samples.{at, sale, cardFile, cardFileOf}
+use Rattle.answers.specs.CardSale.{cashSale}
+use Rattle.answers.specs.CardRun.{numbers, batch, state, refusal, noSale, oneSale, accepted, opened}
+use Rattle.answers.specs.Samples.{at, sale, l9, cardFile, cardFileOf}
 use base.Fml.{Lft}
+use Rattle.card_step.proofs.took.Reads as Took
+use Rattle.card_file.proofs.feed.Reads as Feed
+use Rattle.card_file.proofs.room.check_with_room.Reads as WithRoom
 use Rattle.card_file.proofs.take_line.Reads as TakeLine
 use Rattle.card_file.proofs.no_line_end.Reads as NoLineEndOf
 use Rattle.card_file.proofs.check.Reads as Check
@@ -35,6 +51,16 @@ abbrev tooLong : Unfinished
 tooLong = record { bytes = replicate 242 65; length = 300 }
 
 pub record CardFile (κ : Lft) : Type 0 where
+  -- `took`: a record that is only nodded at; a sale that is counted and not added; a sale taken behind A9
+  pub took : OneAnswer Took.Post
+  pub took-nodded : Tells (Took.Post tt) (state InBatch 3 oneSale, (saleRead cashSale, tt)) (state (Refused (refusal SequenceWrong 4 194)) 3 oneSale) (state InBatch 4 oneSale)
+  pub took-not-added : Tells (Took.Post tt) (state InBatch 2 noSale, (saleRead cashSale, tt)) (state InBatch 3 oneSale) (state InBatch 3 noSale)
+  pub took-behind-a9 : Tells (Took.Post tt) (state Ended 2 noSale, (saleRead cashSale, tt)) (state (Refused (refusal BytesAfterTheEnd 3 0)) 2 noSale) (state InBatch 3 oneSale)
+  -- `feed`: a sale whose amounts disagree added; L9's sum not compared; a refused state that goes on
+  pub feed : OneAnswer Feed.Post
+  pub feed-disagreeing : Tells (Feed.Post (one κ)) (state InBatch 2 noSale, (lent (at 77 "00000009751" sale), tt)) (state (Refused (refusal AmountsDisagree 3 77)) 2 noSale) (state InBatch 3 oneSale)
+  pub feed-l9 : Tells (Feed.Post (one κ)) (state InBatch 3 oneSale, (lent (at 9 "00000000009750" l9), tt)) (state (Refused (refusal TrailerDisagrees 4 9)) 3 oneSale) (record { stage = BetweenBatches; edition = 2; numbers = numbers 4 1 oneSale; batch = batch 1 10000 })
+  pub feed-refused : Tells (Feed.Post (one κ)) (state (Refused (refusal KindUnknown 2 1)) 2 noSale, (lent sale, tt)) (state (Refused (refusal KindUnknown 2 1)) 2 noSale) (state InBatch 3 oneSale)
   -- `take_line`: a piece without CR taken for a record; the CR taken for a part of the record
   pub take-line : OneAnswer TakeLine.Post
   pub line-without-cr : Tells (TakeLine.Post (one κ)) (state InBatch 2 noSale, (lent sale, tt)) (state (Refused (refusal NoLineEnd 3 0)) 2 noSale) (state InBatch 3 oneSale)
@@ -53,6 +79,11 @@ pub record CardFile (κ : Lft) : Type 0 where
   pub check-258 : Tells (Check.Post (one κ)) (258, (lent cardFile, tt)) (refused (refusal EditionUnknown 0 0)) (accepted 5 1 oneSale)
   pub check-version : Tells (Check.Post (one κ)) (1, (lent (cardFileOf (at 54 "7" sale)), tt)) (refused (refusal ValueNotAllowed 3 54)) (accepted 5 1 oneSale)
   pub check-behind-a9 : Tells (Check.Post (one κ)) (2, (lent (cardFile ++ ascii "\n"), tt)) (refused (refusal BytesAfterTheEnd 6 0)) (accepted 5 1 oneSale)
+  -- `check_with_room`: 2 before 1; the file's own refusal before 2; a byte more asked for than is needed
+  pub with-room : OneAnswer WithRoom.Post
+  pub with-room-edition : Tells (WithRoom.Post (one κ)) (3, (lent cardFile, (52, (0, tt)))) (refused (refusal EditionUnknown 0 0)) (refused (refusal OutputTooShort 0 0))
+  pub with-room-first : Tells (WithRoom.Post (one κ)) (2, (lent [], (52, (51, tt)))) (refused (refusal OutputTooShort 0 0)) (refused (refusal EndsTooEarly 1 0))
+  pub with-room-exact : Tells (WithRoom.Post (one κ)) (2, (lent cardFile, (52, (52, tt)))) (accepted 5 1 oneSale) (refused (refusal OutputTooShort 0 0))
   -- `Stream::open`: always edition 2; a byte that has not come
   pub stream-open : OneAnswer StreamOpen.Post
   pub stream-open-3 : Tells (StreamOpen.Post tt) (3, tt) (stream (opened (Refused (refusal EditionUnknown 0 0)) 3) []) (stream (opened Start 3) [])

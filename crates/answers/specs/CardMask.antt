@@ -6,7 +6,7 @@ use denote.Ref.{now}
 use Rattle.text.specs.Literal.{ascii}
 use Rattle.refusal.specs.declared.Cause.the-variants.{EditionUnknown, OutputTooShort, SequenceWrong, KindUnknown, WrongWidth, FieldNotOffered}
 use Rattle.card_run.specs.declared.answer.CardAnswer.the-variants.{Refused}
-use Rattle.card_field.specs.declared.FieldAnswer.the-variants.{Offered, Refused as notOffered}
+use Rattle.sale_field.specs.declared.FieldAnswer.the-variants.{Offered, Refused as notOffered}
 use Rattle.day_sheet.specs.declared.sheet.Sheet.{Sheet}
 use Rattle.day_sheet.specs.Layout.{bytesOf}
 use Rattle.answers.specs.CardRun.{refusal, oneSale, accepted}
@@ -15,8 +15,8 @@ use Rattle.card_run.specs.declared.answer.Accepted.{Accepted}
 use base.Fml.{Lft}
 use Rattle.card_mask.proofs.mask_lines.Reads as MaskLines
 use Rattle.card_mask.proofs.mask.Reads as Mask
-use Rattle.card_field.proofs.field_answer.Reads as FieldAnswer
-use Rattle.card_field.proofs.field.Reads as Field
+use Rattle.sale_field.proofs.field_answer.Reads as FieldAnswer
+use Rattle.sale_field.proofs.field.Reads as Field
 use Rattle.card_sheet.proofs.sheet_from.Reads as SheetFrom
 use Rattle.card_sheet.proofs.sheet_of.Reads as SheetOf
 use Rattle.answers.specs.Held.{OneAnswer, OnePart, OneOutcome, Tells, TellsOutcome, lent, part, one, two}

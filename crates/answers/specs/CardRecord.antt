@@ -9,6 +9,7 @@ use Rattle.answers.specs.CardSale.{cashSale}
 use Rattle.answers.specs.Samples.{at, sale}
 use base.Fml.{Lft}
 use Rattle.card_record.proofs.kind.kind_of.Reads as KindOf
+use Rattle.card_record.proofs.kind.Kind.width.Reads as Width
 use Rattle.card_record.proofs.card_part.card_part.Reads as CardPart
 use Rattle.card_record.proofs.reading.read.Reads as Read
 use Rattle.card_quick.proofs.read.Reads as QuickRead
@@ -20,6 +21,10 @@ pub record CardRecord (κ : Lft) : Type 0 where
   pub kind-aj : Tells (KindOf.Post (one κ)) (lent (ascii "AJ"), tt) Unknown (Known Cv)
   pub kind-one-byte : Tells (KindOf.Post (one κ)) (lent (ascii "C"), tt) Unknown (Known Cv)
   pub kind-small : Tells (KindOf.Post (one κ)) (lent (ascii "a0"), tt) Unknown (Known A0)
+  -- `Kind::width`: a sale's for every kind; the line end counted
+  pub kind-width : OneAnswer Width.Post
+  pub width-for-all : Tells (Width.Post tt) (A0, tt) 75 199
+  pub width-line-end : Tells (Width.Post tt) (Cv, tt) 199 201
   -- `card_part`: a place counted from 1; a card in a longer record; one in a record of another kind
   pub card-part : OneAnswer CardPart.Post
   pub card-from-one : Tells (CardPart.Post (one κ)) (lent sale, tt) (From 87) (From 88)

@@ -5,31 +5,40 @@ use Rattle.refusal.specs.declared.Refusal.{Refusal}
 use Rattle.totals.specs.declared.amounts.Totals.{Totals}
 use Rattle.card_run.specs.declared.stage.Stage.{Stage}
 use Rattle.card_run.specs.declared.running.Running.{Running}
+use Rattle.card_run.specs.declared.answer.Accepted.{Accepted as Numbers}
 use Rattle.card_run.specs.declared.answer.CardAnswer.{CardAnswer}
+use Rattle.card_run.specs.declared.batch.OpenBatch.{OpenBatch}
 use mathlib.Core.Bool.{true, false}
-use Rattle.refusal.specs.declared.Cause.the-variants.{EditionUnknown, KindUnknown, SequenceWrong, AmountsDisagree, TrailerDisagrees, EndsTooEarly, BytesAfterTheEnd}
+use Rattle.refusal.specs.declared.Cause.the-variants.{EditionUnknown, SequenceWrong, EndsTooEarly, BytesAfterTheEnd}
 use Rattle.card_record.specs.declared.kind.Kind.the-variants.{A0, Cv, L9}
-use Rattle.card_record.specs.declared.reading.Reading.the-variants.{Cv as saleRead}
 use Rattle.card_run.specs.declared.stage.Stage.the-variants.{Start, BetweenBatches, InBatch, Ended, Closed, Refused}
 use Rattle.card_run.specs.declared.answer.CardAnswer.the-variants.{GoingOn, Accepted, Refused as refused}
 use Rattle.answers.specs.Totals.{amounts, totalsOf}
-use Rattle.answers.specs.CardSale.{cashSale}
-use Rattle.answers.specs.Samples.{at, sale, l9}
-use base.Fml.{Lft}
 use Rattle.card_run.proofs.running.Running.open.Reads as Open
 use Rattle.card_run.proofs.running.Running.refused.Reads as RefusedAt
-use Rattle.card_run.proofs.running.Running.took.Reads as Took
-use Rattle.card_run.proofs.running.Running.feed.Reads as Feed
+use Rattle.card_run.proofs.running.Running.next_number.Reads as NextNumber
+use Rattle.card_run.proofs.running.Running.moved.Reads as Moved
+use Rattle.card_run.proofs.running.Running.late.Reads as Late
+use Rattle.card_run.proofs.batch.OpenBatch.none.Reads as NoSale
+use Rattle.card_run.proofs.batch.OpenBatch.sold.Reads as Sold
 use Rattle.card_run.proofs.running.Running.close.Reads as Close
 use Rattle.card_run.proofs.running.Running.answer.Reads as Answer
 use Rattle.card_run.proofs.stage.Stage.is_open.Reads as IsOpen
 use Rattle.card_run.proofs.stage.Stage.allows.Reads as Allows
-use Rattle.answers.specs.Held.{OneAnswer, Tells, lent, one}
+use Rattle.answers.specs.Held.{OneAnswer, Tells}
+
+-- the numbers of a file of so many records and batches with these totals
+abbrev pub numbers : ℕ → ℕ → Totals → Numbers
+numbers records batches totals = record { date = 20240229; movement = 1; records = records; batches = batches; totals = totals }
+
+-- an open batch
+abbrev pub batch : ℕ → ℕ → OpenBatch
+batch sales gross = record { sales = sales; gross = gross }
 
 -- a state of edition 2 at a stage, behind so many records, whose sales come to these totals, all of the open batch
 abbrev pub state : Stage → ℕ → Totals → Running
 state stage records totals =
-    record { stage = stage; edition = 2; records = records; date = 20240229; movement = 1; batches = 0; totals = totals; batch = totals }
+    record { stage = stage; edition = 2; numbers = numbers records 0 totals; batch = batch (totals .sales) (totals .amounts .gross) }
 
 -- a refusal
 abbrev pub refusal : Cause → ℕ → ℕ → Refusal
@@ -44,14 +53,19 @@ oneSale = totalsOf 1 (amounts 10000 250 9750)
 
 -- an accepted file of so many records and batches with these totals
 abbrev pub accepted : ℕ → ℕ → Totals → CardAnswer
-accepted records batches totals = Accepted (record { date = 20240229; movement = 1; records = records; batches = batches; totals = totals })
+accepted records batches totals = Accepted (numbers records batches totals)
 
 -- a file of an edition of which nothing has come
 abbrev pub opened : Stage → ℕ → Running
 opened stage edition =
-    record { stage = stage; edition = edition; records = 0; date = 0; movement = 0; batches = 0; totals = noSale; batch = noSale }
+    record {
+      stage = stage;
+      edition = edition;
+      numbers = record { date = 0; movement = 0; records = 0; batches = 0; totals = noSale };
+      batch = batch 0 0;
+    }
 
-pub record CardRun (κ : Lft) : Type 0 where
+pub record CardRun : Type 0 where
   -- `Running::open`: an edition cut down to a byte, 258 to 2; edition 1 refused
   pub opens : OneAnswer Open.Post
   pub open-258 : Tells (Open.Post tt) (258, tt) (opened (Refused (refusal EditionUnknown 0 0)) 258) (opened Start 258)
@@ -60,16 +74,26 @@ pub record CardRun (κ : Lft) : Type 0 where
   pub refuses : OneAnswer RefusedAt.Post
   pub refused-before : Tells (RefusedAt.Post tt) (state InBatch 2 noSale, (SequenceWrong, (194, tt))) (state (Refused (refusal SequenceWrong 3 194)) 2 noSale) (state (Refused (refusal SequenceWrong 2 194)) 2 noSale)
   pub refused-forgotten : Tells (RefusedAt.Post tt) (state InBatch 2 noSale, (SequenceWrong, (194, tt))) (state (Refused (refusal SequenceWrong 3 194)) 2 noSale) (state InBatch 2 noSale)
-  -- `Running::took`: a record that is only nodded at; a sale that is counted and not added; a sale taken behind A9
-  pub took : OneAnswer Took.Post
-  pub took-nodded : Tells (Took.Post tt) (state InBatch 3 oneSale, (saleRead cashSale, tt)) (state (Refused (refusal SequenceWrong 4 194)) 3 oneSale) (state InBatch 4 oneSale)
-  pub took-not-added : Tells (Took.Post tt) (state InBatch 2 noSale, (saleRead cashSale, tt)) (state InBatch 3 oneSale) (state InBatch 3 noSale)
-  pub took-behind-a9 : Tells (Took.Post tt) (state Ended 2 noSale, (saleRead cashSale, tt)) (state (Refused (refusal BytesAfterTheEnd 3 0)) 2 noSale) (state InBatch 3 oneSale)
-  -- `Running::feed`: a sale whose amounts disagree added; L9's sum not compared; a refused state that goes on
-  pub feed : OneAnswer Feed.Post
-  pub feed-disagreeing : Tells (Feed.Post (one κ)) (state InBatch 2 noSale, (lent (at 77 "00000009751" sale), tt)) (state (Refused (refusal AmountsDisagree 3 77)) 2 noSale) (state InBatch 3 oneSale)
-  pub feed-l9 : Tells (Feed.Post (one κ)) (state InBatch 3 oneSale, (lent (at 9 "00000000009750" l9), tt)) (state (Refused (refusal TrailerDisagrees 4 9)) 3 oneSale) (record { stage = BetweenBatches; edition = 2; records = 4; date = 20240229; movement = 1; batches = 1; totals = oneSale; batch = oneSale })
-  pub feed-refused : Tells (Feed.Post (one κ)) (state (Refused (refusal KindUnknown 2 1)) 2 noSale, (lent sale, tt)) (state (Refused (refusal KindUnknown 2 1)) 2 noSale) (state InBatch 3 oneSale)
+  -- `Running::next_number`: the number of the last record; a number that wraps
+  pub next-number : OneAnswer NextNumber.Post
+  pub next-number-last : Tells (NextNumber.Post tt) (state InBatch 2 noSale, tt) 3 2
+  pub next-number-wraps : Tells (NextNumber.Post tt) (state InBatch 18446744073709551615 noSale, tt) 18446744073709551615 0
+  -- `Running::moved`: the stage kept; the numbers kept; the open batch kept
+  pub moved : OneAnswer Moved.Post
+  pub moved-stage : Tells (Moved.Post tt) (state InBatch 3 oneSale, (Ended, (numbers 3 0 oneSale, (batch 1 10000, tt)))) (state Ended 3 oneSale) (state InBatch 3 oneSale)
+  pub moved-numbers : Tells (Moved.Post tt) (state InBatch 2 oneSale, (InBatch, (numbers 3 0 oneSale, (batch 1 10000, tt)))) (state InBatch 3 oneSale) (state InBatch 2 oneSale)
+  pub moved-batch : Tells (Moved.Post tt) (state InBatch 3 oneSale, (InBatch, (numbers 3 0 noSale, (batch 0 0, tt)))) (state InBatch 3 noSale) (record { stage = InBatch; edition = 2; numbers = numbers 3 0 noSale; batch = batch 1 10000 })
+  -- `Running::late`: bytes behind A9 passed over; a refused file refused anew
+  pub late : OneAnswer Late.Post
+  pub late-behind-a9 : Tells (Late.Post tt) (state Ended 5 oneSale, tt) (state (Refused (refusal BytesAfterTheEnd 6 0)) 5 oneSale) (state Ended 5 oneSale)
+  pub late-refused : Tells (Late.Post tt) (state (Refused (refusal SequenceWrong 3 194)) 5 oneSale, tt) (state (Refused (refusal SequenceWrong 3 194)) 5 oneSale) (state (Refused (refusal BytesAfterTheEnd 6 0)) 5 oneSale)
+  -- `OpenBatch::none`: a sale that has not come; `OpenBatch::sold`: the sum forgotten, a count that wraps
+  pub no-sale : OneAnswer NoSale.Post
+  pub no-sale-one : Tells (NoSale.Post tt) tt (batch 0 0) (batch 1 0)
+  pub no-sale-sum : Tells (NoSale.Post tt) tt (batch 0 0) (batch 0 10000)
+  pub sold : OneAnswer Sold.Post
+  pub sold-forgotten : Tells (Sold.Post tt) (batch 1 10000, (250, tt)) (batch 2 10250) (batch 2 250)
+  pub sold-wraps : Tells (Sold.Post tt) (batch 18446744073709551615 0, (1, tt)) (batch 18446744073709551615 1) (batch 0 1)
   -- `Running::close`: a file closed in the middle of a batch; a closed file refused by a further close
   pub close : OneAnswer Close.Post
   pub close-in-batch : Tells (Close.Post tt) (state InBatch 3 oneSale, tt) (state (Refused (refusal EndsTooEarly 4 0)) 3 oneSale) (state Closed 3 oneSale)

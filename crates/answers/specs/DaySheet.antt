@@ -1,4 +1,4 @@
--- What the contracts of the day sheet and of an edition's word are held to. Behind a function's name: the wrong programs that are ruled out.
+-- What the contracts of the day sheet and of an edition are held to. Behind a function's name: the wrong programs that are ruled out.
 use Prim.Native.Nat.{ℕ}
 use mathlib.Core.Bool.{true, false}
 use mathlib.Core.List.{List, [], _∷_, _++_}
@@ -20,6 +20,7 @@ use Rattle.day_sheet.proofs.number.Form.put.Reads as Put
 use Rattle.day_sheet.proofs.sheet.Sheet.is_allowed.Reads as IsAllowed
 use Rattle.day_sheet.proofs.reader.read.Reads as ReadSheet
 use Rattle.day_sheet.proofs.writer.write.Reads as WriteSheet
+use Rattle.edition.proofs.known.is_known.Reads as IsKnown
 use Rattle.edition.proofs.edition_of.Reads as EditionOf
 use Rattle.answers.specs.Held.{OneAnswer, OneOutcome, Tells, TellsOutcome, lent, one}
 
@@ -71,6 +72,10 @@ pub record DaySheet (κ : Lft) : Type 0 where
       TellsOutcome (WriteSheet.Post (one κ)) (sheetOf 2 9750, (lent (room 51), tt))
       (record { answer = notWritten (refusal OutputTooShort 0 0); exit = (sheetOf 2 9750, (lent (room 51), tt)) })
       (record { answer = notWritten (refusal OutputTooShort 0 0); exit = (sheetOf 2 9750, (lent (take 51 (bytesOf (sheetOf 2 9750))), tt)) })
+  -- `is_known`: an edition cut down to a byte, 258 to 2; edition 1 not known
+  pub is-known : OneAnswer IsKnown.Post
+  pub is-known-258 : Tells (IsKnown.Post tt) (258, tt) false true
+  pub is-known-1 : Tells (IsKnown.Post tt) (1, tt) true false
   -- `edition_of`: a value that wraps, 2^64 + 2; no digit at all taken for 0; a sign passed over
   pub edition-of : OneAnswer EditionOf.Post
   pub edition-wraps : Tells (EditionOf.Post (one κ)) (lent (ascii "18446744073709551618"), tt) (Of 18446744073709551615) (Of 2)

@@ -12,9 +12,9 @@ use Rattle.card_run.specs.declared.answer.CardAnswer.the-variants.{GoingOn, Ref
 use Rattle.card_kept.specs.Kept.{Kept}
 use Rattle.payroll_kept.specs.Kept as payroll
 use Rattle.demands.specs.Feeding.{upTo}
-use Rattle.demands.specs.FirstFault.{rulesAt}
+use Rattle.card_kept.specs.FirstFault.{rulesAt}
 use Rattle.demands.specs.HiddenDigits.{hiddenIn, TwinFiles}
-use Rattle.demands.specs.LentBuffers.{cardDone, LeftAlone}
+use Rattle.demands.specs.LentBuffers.{cardCounts, LeftAlone}
 use Rattle.answers.specs.CardRun.{state, refusal, noSale, oneSale, accepted}
 use Rattle.answers.specs.Samples.{
   at,
@@ -54,4 +54,4 @@ pub record Definitions : Type 0 where
   pub refused-at-once : upTo 3 (Refused (refusal SequenceWrong 3 194)) ≡ Refused (refusal SequenceWrong 3 194)
   pub refused-not-before : upTo 2 (Refused (refusal SequenceWrong 3 194)) ≡ GoingOn
   -- `LeftAlone`: said of an accepted answer too
-  pub accepted-not-alone : LeftAlone (cardDone (rowOf (accepted 5 1 oneSale)) [] []) → ⊥
+  pub accepted-not-alone : LeftAlone (cardFile ≡ cardFile) (cardCounts (rowOf (accepted 5 1 oneSale))) → ⊥

@@ -32,7 +32,7 @@ pub record HeldToAccount : Type 0 where
   pub card-sale : (κ : Lft) → CardSale κ
   pub card-frame : (κ : Lft) → CardFrame κ
   pub card-record : (κ : Lft) → CardRecord κ
-  pub card-run : (κ : Lft) → CardRun κ
+  pub card-run : CardRun
   pub card-file : (κ : Lft) → CardFile κ
   pub card-mask : (κ : Lft) → CardMask κ
   pub payroll-record : (κ : Lft) → PayrollRecord κ

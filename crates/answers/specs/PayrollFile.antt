@@ -23,9 +23,11 @@ use Rattle.answers.specs.PayrollRecord.{detailOf, batchTrailerOf, fileTr
 use Rattle.answers.specs.Samples.{at, payment, payrollFile, payrollFileOf}
 use base.Fml.{Lft}
 use Rattle.payroll_run.proofs.running.Running.open.Reads as Open
+use Rattle.payroll_run.proofs.running.Running.next_number.Reads as NextNumber
 use Rattle.payroll_run.proofs.running.Running.refusal.Reads as RefusalOf
 use Rattle.payroll_run.proofs.running.Running.refused.Reads as RefusedAt
-use Rattle.payroll_run.proofs.running.Running.took.Reads as Took
+use Rattle.payroll_run.proofs.running.Running.behind.Reads as Behind
+use Rattle.payroll_step.proofs.took.Reads as Took
 use Rattle.payroll_run.proofs.stage.Stage.allows.Reads as Allows
 use Rattle.payroll_file.proofs.file.take_line.Reads as TakeLine
 use Rattle.payroll_file.proofs.file.answer_with_rest.Reads as AnswerWithRest
@@ -78,6 +80,10 @@ pub record PayrollFile (κ : Lft) : Type 0 where
   pub opens : OneAnswer Open.Post
   pub opens-in-batch : Tells (Open.Post tt) tt (opened Start) (opened InBatch)
   pub opens-counted : Tells (Open.Post tt) tt (opened Start) (state Start 1 0 0 0)
+  -- `Running::next_number`: the record before; a count that wraps
+  pub next-number : OneAnswer NextNumber.Post
+  pub next-number-before : Tells (NextNumber.Post tt) (state BehindA 3 2 1 10000, tt) 4 3
+  pub next-number-wrapped : Tells (NextNumber.Post tt) (state BehindA largest 2 1 10000, tt) largest 0
   -- `Running::refusal`: the record before told; a column left out
   pub refusal-of : OneAnswer RefusalOf.Post
   pub refusal-before : Tells (RefusalOf.Post tt) (state BehindA 3 2 1 10000, (SequenceWrong, (9, tt))) (refusal SequenceWrong 4 9) (refusal SequenceWrong 3 9)
@@ -86,7 +92,12 @@ pub record PayrollFile (κ : Lft) : Type 0 where
   pub refuses : OneAnswer RefusedAt.Post
   pub refuses-forgotten : Tells (RefusedAt.Post tt) (state BehindA 3 2 1 10000, (SequenceWrong, (9, tt))) (state (Refused (refusal SequenceWrong 4 9)) 3 2 1 10000) (state BehindA 3 2 1 10000)
   pub refuses-counted : Tells (RefusedAt.Post tt) (state BehindA 3 2 1 10000, (SequenceWrong, (9, tt))) (state (Refused (refusal SequenceWrong 4 9)) 3 2 1 10000) (state (Refused (refusal SequenceWrong 4 9)) 4 2 1 10000)
-  -- `Running::took`: a record that is only nodded at; amounts added in 64 bits and compared after a wrap, in the batch and over the file; a trailer that does not count itself
+  -- `Running::behind`: a payment counted and not added; amounts added in 64 bits; a trailer that is not counted
+  pub behind : OneAnswer Behind.Post
+  pub behind-not-added : Tells (Behind.Post tt) (state InBatch 2 1 0 0, (Detail (detailOf SegmentA Nothing 10000), tt)) (state BehindA 3 2 1 10000) (state BehindA 3 2 1 0)
+  pub behind-wrapped : Tells (Behind.Post tt) (state InBatch 2 1 0 largest, (Detail (detailOf SegmentA Nothing 1), tt)) (state BehindA 3 2 1 largest) (state BehindA 3 2 1 0)
+  pub behind-not-counted : Tells (Behind.Post tt) (state BehindA 3 2 1 10000, (BatchTrailer (batchTrailerOf (Of 3) (Of 10000)), tt)) (state BetweenBatches 4 3 1 10000) (state BetweenBatches 3 2 1 10000)
+  -- `payroll_step::took`: a record that is only nodded at; amounts added in 64 bits and compared after a wrap, in the batch and over the file; a trailer that does not count itself
   pub took : OneAnswer Took.Post
   pub took-nodded : Tells (Took.Post tt) (state BehindA 3 2 1 10000, (Detail (detailOf SegmentA Nothing 10000), tt)) (state (Refused (refusal SequenceWrong 4 9)) 3 2 1 10000) (state BehindA 4 3 2 20000)
   pub took-wrapped : Tells (Took.Post tt) (state InBatch 2 1 0 largest, (Detail (detailOf SegmentA Nothing 1), tt)) (state BehindA 3 2 1 largest) (state BehindA 3 2 1 0)

@@ -1,8 +1,9 @@
 -- What the contracts of `refusal` are held to. Behind a function's name: the wrong programs that are ruled out.
 use mathlib.Core.Bool.{true, false}
-use Rattle.refusal.specs.declared.Cause.the-variants.{ByteNotAllowed, ValueNotAllowed, KindUnknown}
+use Rattle.refusal.specs.declared.Cause.the-variants.{EditionUnknown, OutputTooShort, ByteNotAllowed, ValueNotAllowed, KindUnknown}
 use Rattle.refusal.specs.declared.Fault.the-variants.{Nothing, At}
 use Rattle.refusal.proofs.Cause.number.Reads as Number
+use Rattle.refusal.proofs.Refusal.nowhere.Reads as NowhereOf
 use Rattle.refusal.proofs.rule.Reads as Rule
 use Rattle.refusal.proofs.Fault.earlier.Reads as Earlier
 use Rattle.answers.specs.Held.{OneAnswer, Tells}
@@ -12,6 +13,10 @@ pub record Refusal : Type 0 where
   pub number : OneAnswer Number.Post
   pub number-from-one : Tells (Number.Post tt) (ByteNotAllowed, tt) 7 6
   pub number-exchanged : Tells (Number.Post tt) (ValueNotAllowed, tt) 8 7
+  -- `Refusal::nowhere`: at the first record; another cause
+  pub nowhere : OneAnswer NowhereOf.Post
+  pub nowhere-record : Tells (NowhereOf.Post tt) (EditionUnknown, tt) (record { cause = EditionUnknown; «record» = 0; column = 0 }) (record { cause = EditionUnknown; «record» = 1; column = 0 })
+  pub nowhere-cause : Tells (NowhereOf.Post tt) (OutputTooShort, tt) (record { cause = OutputTooShort; «record» = 0; column = 0 }) (record { cause = EditionUnknown; «record» = 0; column = 0 })
   -- `rule`: a fault where the rule holds; none where it does not
   pub rule : OneAnswer Rule.Post
   pub rule-held : Tells (Rule.Post tt) (KindUnknown, (1, (true, tt))) Nothing (At KindUnknown 1)

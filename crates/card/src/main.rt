@@ -12,7 +12,7 @@ fn main() {
         mistake::tell_usage(b"card EDITION < FILE");
         return;
     }
-    let mut word = [0u8; argument::LONGEST];
+    let mut word = argument::room();
     match argument::edition_at(1, &mut word) {
         Edition::NoNumber => mistake::tell(Mistake::EditionNoNumber),
         Edition::Of(edition) => verdict::print_outcome(check::check(edition, STDIN_FILENO)),

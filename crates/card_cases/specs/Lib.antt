@@ -1,1 +1,3 @@
+pub mod Behind
+pub mod Call
 pub mod Streamed

@@ -1,5 +1,5 @@
 // Card files: prints the answer of each case, a line each, first of the outside cases and then of our own: read whole, then in chunks, and the small ones
-// of our own cut in two at every place.
+// of our own cut in two at every place; then of cases given record by record, of what no file of cases can say, and of single fields.
 ghost use Prim.Native.Nat.{_+_, _≤_, min};
 ghost use lib.ListN.{length};
 use card_run::answer::CardAnswer;
@@ -13,6 +13,9 @@ use cases::row;
 use cases::source::Source;
 use cases::source::Way;
 
+mod fed;
+mod fields;
+mod limits;
 mod streamed;
 
 // The longest file that is cut at every place.
@@ -76,4 +79,9 @@ fn main() {
     print_all(Source::Outside, Way::InChunks);
     print_all(Source::Own, Way::InChunks);
     print_all(Source::Own, Way::CutAtEveryPlace);
+    fed::print_outside();
+    fed::print_own();
+    limits::print_all();
+    fields::print_outside();
+    fields::print_own();
 }

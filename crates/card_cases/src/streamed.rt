@@ -4,7 +4,7 @@ ghost use mathlib.Core.Bool.{cond};
 ghost use Prim.Native.Nat.{_+_, _≤_};
 ghost use lib.ListN.{length};
 ghost use Rattle.card_file.specs.CardFile.{checkOf};
-ghost use Rattle.cases.specs.Row.{cardNumbers};
+ghost use Rattle.cases.specs.CardNumbers.{cardNumbers};
 ghost use Rattle.text.specs.Literal.{sameBytes};
 ghost use Rattle.card_cases.specs.Streamed.{finishedOf};
 use card_run::answer::CardAnswer;

@@ -10,14 +10,14 @@ use lib.ListN.{take, drop, length-take, drop-of-length-le}
 use lib.Seq.{slice, take-take, drop-drop}
 use lib.Dec.{leb}
 use borrow.Author.Tests.{leb-true}
-use Rattle.text.specs.Number.{numberOf}
+use Rattle.text.specs.Number.{numberOf, plainNumber}
 use Rattle.text.proofs.Alphabets.{both-left, both-right}
 use Rattle.text.proofs.Parts.{drop-take}
 use Rattle.pan.proofs.Tests.{by-test}
 use Rattle.card_content.specs.declared.field.Field.{Field}
 use Rattle.card_content.specs.Content.{contentRules}
 use Rattle.card_content.specs.EqualOutside.{EqualOutside}
-use Rattle.card_content.specs.Field.{partOf, fieldRules, tableRules, plainNumber, numberIn}
+use Rattle.card_content.specs.Field.{partOf, fieldRules, tableRules, numberIn}
 
 -- a field ends before some places, or begins behind them
 abbrev pub clear : ℕ → ℕ → Field → Bool

@@ -10,14 +10,13 @@ use lib.Dec.{lit<, leb}
 use Rattle.text.specs.declared.alphabet.Alphabet.the-variants.{Digits as digits}
 use Rattle.text.specs.declared.number.Number.the-variants.{Of, NotDigits, TooLong}
 use Rattle.text.specs.Alphabet.{holdsOnly}
-use Rattle.text.specs.Number.{valueOf, numberOf}
+use Rattle.text.specs.Number.{valueOf, numberOf, plainNumber}
 use Rattle.text.proofs.Numbers.{value-below}
 use Rattle.card_content.specs.declared.field.Field.{Field}
-use Rattle.card_content.specs.Field.{partOf, plainNumber, numberIn}
+use Rattle.card_content.specs.Field.{partOf, numberIn}
 
 -- what at most n bytes write, where they write a number at all
 written-below : (n : ℕ) (s : List ℕ) → length s ≤ n → plainNumber (numberOf s) < 10 ^ n
-unfolding plainNumber
 written-below n s h = by (holdsOnly digits s) (leb (length s) 18) refl
   where
     by : (p q : Bool) → holdsOnly digits s ≡ p → plainNumber (cond p (cond q (Of (valueOf s)) TooLong) NotDigits) < 10 ^ n

@@ -5,9 +5,7 @@ use lib.ListN.{length}
 use lib.Dec.{eqb}
 use Rattle.refusal.specs.declared.Cause.the-variants.{WrongWidth}
 use Rattle.refusal.specs.Rules.{Rule, ruleAt}
-use Rattle.text.specs.declared.number.Number.{Number}
-use Rattle.text.specs.declared.number.Number.the-variants.{Of, NotDigits, TooLong}
-use Rattle.text.specs.Number.{numberOf}
+use Rattle.text.specs.Number.{numberOf, plainNumber}
 use Rattle.card_content.specs.declared.content.Content.{Content}
 use Rattle.card_content.specs.declared.field.Field.{Field}
 use Rattle.text.specs.Part.{positions}
@@ -34,12 +32,6 @@ tableRules edition r (f ∷ fs) = fieldRules edition r f ++ tableRules edition r
 unfoldable pub recordRules : ℕ → List ℕ → ℕ → List Field → List Rule
 recordRules edition r width table = ruleAt WrongWidth 0 (eqb (length r) width) ∷ tableRules edition r table
 
--- the number that a part's digits write; 0 where they write none
-unfoldable pub plainNumber : Number → ℕ
-plainNumber (Of n) = n
-plainNumber NotDigits = 0
-plainNumber TooLong = 0
-
--- the number in a field of a record
+-- the number in a field of a record; 0 where its digits write none
 abbrev pub numberIn : Field → List ℕ → ℕ
 numberIn f r = plainNumber (numberOf (partOf f r))

@@ -7,7 +7,6 @@ ghost use Rattle.card_content.specs.Field.{fieldRules, numberIn};
 use crate::content::Content;
 use refusal::Cause;
 use refusal::Fault;
-use text::number::Number;
 
 // The first and the last position, from 1, as the tables print them, and the content.
 pub struct Field(pub usize, pub usize, pub Content);
@@ -33,11 +32,7 @@ impl Field {
     pub fn number(self, bytes: &[u8]) -> u64
         ensures { λ r. ⌜ r ≡ numberIn self (now (bytes .entry)) ⌝ }
     {
-        match text::number::number_of(self.part(bytes)) {
-            Number::Of(n) => n,
-            Number::NotDigits => 0,
-            Number::TooLong => 0,
-        }
+        text::number::number_of(self.part(bytes)).or_zero()
     }
 
     // The fault of a rule that is broken at this field unless it holds.

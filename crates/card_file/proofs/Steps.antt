@@ -9,7 +9,8 @@ use Rattle.lines.specs.declared.Found.the-variants.{At, Nowhere}
 use Rattle.lines.specs.Lines.{cut, nextLf, endsInCr, withoutLast}
 use Rattle.lines.proofs.Cuts.{cut-at, cut-nowhere}
 use Rattle.card_run.specs.declared.running.Running.{Running}
-use Rattle.card_run.specs.Running.{fedOf, closedOf}
+use Rattle.card_run.specs.Running.{closedOf}
+use Rattle.card_file.specs.Feeding.{fedOf}
 use Rattle.card_file.specs.CardFile.{unendedOf, lineOf, linesOf, endOf, ranOf}
 
 -- a piece that ends in CR is a record, and any other has no line end

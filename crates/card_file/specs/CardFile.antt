@@ -2,23 +2,19 @@
 use Prim.Native.Nat.{ℕ}
 use mathlib.Core.List.{List, [], _∷_}
 use mathlib.Core.Bool.{cond}
-use Rattle.refusal.specs.declared.Cause.the-variants.{NoLineEnd, BytesAfterTheEnd}
+use Rattle.refusal.specs.declared.Cause.the-variants.{NoLineEnd}
 use Rattle.lines.specs.Lines.{Lines, cut, endsInCr, withoutLast}
 use Rattle.card_run.specs.declared.stage.Stage.{Stage}
-use Rattle.card_run.specs.declared.stage.Stage.the-variants.{Start, BetweenBatches, InBatch, Ended, Closed, Refused}
 use Rattle.card_run.specs.declared.running.Running.{Running}
 use Rattle.card_run.specs.declared.answer.CardAnswer.{CardAnswer}
-use Rattle.card_run.specs.Running.{openOf, refusedAt, fedOf, closedOf}
+use Rattle.card_run.specs.Stage.{isOpen}
+use Rattle.card_run.specs.Running.{openOf, refusedAt, lateAt, closedOf}
 use Rattle.card_run.specs.Answer.{answerOf}
+use Rattle.card_file.specs.Feeding.{fedOf}
 
 -- 3, "no LF in the rest, or the next LF has no CR right before it in the record"; 13, "bytes after the end", comes first
 unfoldable pub unendedAt : Stage → Running → Running
-unendedAt Start st = refusedAt NoLineEnd 0 st
-unendedAt BetweenBatches st = refusedAt NoLineEnd 0 st
-unendedAt InBatch st = refusedAt NoLineEnd 0 st
-unendedAt Ended st = refusedAt BytesAfterTheEnd 0 st
-unendedAt Closed st = refusedAt BytesAfterTheEnd 0 st
-unendedAt (Refused r) st = st
+unendedAt stage st = cond (isOpen stage) (refusedAt NoLineEnd 0 st) (lateAt stage st)
 
 abbrev pub unendedOf : Running → Running
 unendedOf st = unendedAt (st .stage) st

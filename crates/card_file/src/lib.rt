@@ -1,18 +1,27 @@
-// A card file read whole.
+// A card file, record by record and read whole.
 ghost use mathlib.Core.Path.{_≡_};
+ghost use Rattle.card_file.specs.Feeding.{fedOf};
 ghost use Rattle.card_file.specs.CardFile.{lineOf, unendedOf, checkOf};
 use card_run::answer::CardAnswer;
 use card_run::running::Running;
-use card_run::stage::Stage;
 use lines::Found;
 use refusal::Cause;
+
+pub mod room;
+
+// Takes the next record, without its line end.
+pub fn feed(state: Running, bytes: &[u8]) -> Running
+    ensures { λ r. ⌜ r ≡ fedOf state (now (bytes .entry)) ⌝ }
+{
+    card_step::took(state, card_quick::read(state.edition, bytes))
+}
 
 // Takes the piece before an LF: a record, where a CR ends it.
 pub fn take_line(state: Running, piece: &[u8]) -> Running
     ensures { λ r. ⌜ r ≡ lineOf state (now (piece .entry)) ⌝ }
 {
     if lines::ends_in_cr(piece) {
-        return state.feed(lines::without_last(piece));
+        return feed(state, lines::without_last(piece));
     }
     no_line_end(state)
 }
@@ -22,14 +31,10 @@ pub fn no_line_end(state: Running) -> Running
     ensures { λ r. ⌜ r ≡ unendedOf state ⌝ }
 {
     let stage = state.stage;
-    match stage {
-        Stage::Refused(_) => state,
-        Stage::Ended => state.refused(Cause::BytesAfterTheEnd, 0),
-        Stage::Closed => state.refused(Cause::BytesAfterTheEnd, 0),
-        Stage::Start => state.refused(Cause::NoLineEnd, 0),
-        Stage::BetweenBatches => state.refused(Cause::NoLineEnd, 0),
-        Stage::InBatch => state.refused(Cause::NoLineEnd, 0),
+    if stage.is_open() {
+        return state.refused(Cause::NoLineEnd, 0);
     }
+    state.late()
 }
 
 // The answer of a file of this edition.

@@ -24,7 +24,7 @@ use Rattle.card_content.specs.declared.content.Content.{Content}
 use Rattle.card_content.specs.declared.content.Content.the-variants.{Digits, Text, Day, Time, Card, OneOf}
 use Rattle.card_content.specs.declared.field.Field.{Field}
 use Rattle.card_content.specs.Content.{contentRules}
-use Rattle.card_content.specs.Field.{fieldRules, tableRules, plainNumber, numberIn}
+use Rattle.card_content.specs.Field.{fieldRules, tableRules, numberIn}
 use Rattle.card_kept.specs.Fields.{ContentKept, FieldsKept, numberAt}
 
 -- a rule alone
@@ -125,7 +125,6 @@ table-kept edition width r (f ∷ fs) wide fit (k, ks) =
 -- the number in a field is that of its digits, where there are at most 18
 pub plain-number : (f : Field) (r : List ℕ) → leb (f .1 - (f .0 - 1)) 18 ≡ true → holdsOnly digits (positions (f .0) (f .1) r) ≡ true →
     numberIn f r ≡ numberAt (f .0) (f .1) r
-unfolding plainNumber
 plain-number f r short d =
     let n = leb-true (f .1 - (f .0 - 1)) 18 short in
     rw (d, le-leb (length (positions (f .0) (f .1) r)) 18 (omega (arith, length-drop (f .0 - 1) (take (f .1) r), length-take (f .1) r)))

@@ -1,16 +1,15 @@
 -- A file that is accepted keeps the rules: its first piece is A0, and the run behind it says what the others are.
 use Prim.Native.Nat.{ℕ}
 use mathlib.Core.Path.{_≡_, refl, sym, _∙_, ap, ap₂, subst}
-use mathlib.Core.Logic.{_⊎_, inl, inr}
-use mathlib.Core.List.{List, [], _∷_, map}
-use mathlib.Core.Bool.{Bool, true, false, cond, _||_, false≢true}
-use lib.Dec.{eqb}
-use borrow.Author.Tests.{eqb-true}
+use mathlib.Core.List.{List, [], _∷_, map, append-nil}
+use mathlib.Core.Bool.{Bool, true, false, cond, false≢true}
 use Rattle.refusal.specs.declared.Cause.the-variants.{EditionUnknown}
 use Rattle.refusal.specs.declared.Refusal.{Refusal}
+use Rattle.refusal.specs.Nowhere.{nowhere}
 use Rattle.text.proofs.Alphabets.{both-left, both-right}
 use Rattle.lines.specs.Lines.{noLf, allNoLf, withCr, rejoined, cut}
-use Rattle.lines.proofs.Cuts.{cut-is-cut}
+use Rattle.lines.proofs.Cuts.{cut-is-cut, records-are-pieces, with-cr-clear}
+use Rattle.edition.specs.Known.{known}
 use Rattle.card_record.specs.declared.kind.Kind.{Kind}
 use Rattle.card_record.specs.declared.kind.Kind.the-variants.{A0, L0, Cv, L9, A9}
 use Rattle.card_run.specs.declared.stage.Stage.{Stage}
@@ -24,22 +23,21 @@ use Rattle.card_kept.specs.Kept.{File, recordsOf, FileKept, Kept}
 use Rattle.card_kept.proofs.Next.{NextKept}
 use Rattle.card_kept.proofs.Steps.{Alive}
 use Rattle.card_kept.proofs.PlainSteps.{behindPlain, still-small, stepped}
-use Rattle.card_kept.proofs.OneLine.{with-cr, pieces-joined}
 use Rattle.card_kept.proofs.Accepting.{open-small}
 use Rattle.card_kept.proofs.Refused.{EndsAccepted, alive, piece, too-early}
 use Rattle.card_kept.proofs.Left.{BatchesLeft, went-on, says}
 
 -- an edition that is not refused is known
-abbrev opened : Bool → Bool → Stage
-opened p q = cond (p || q) Start (Refused (record { cause = EditionUnknown; «record» = 0; column = 0 }))
+opened : Bool → Stage
+opened p = cond p Start (Refused (nowhere EditionUnknown))
 
-known : (e : ℕ) → Alive (openOf e) → (openStage e ≡ Start) × ((e ≡ 1) ⊎ (e ≡ 2))
-known e goes = by (eqb e 1) (eqb e 2) refl refl goes
+is-known : (e : ℕ) → Alive (openOf e) → (openStage e ≡ Start) × (known e ≡ true)
+unfolding opened
+is-known e goes = by (known e) refl goes
   where
-    by : (p q : Bool) → eqb e 1 ≡ p → eqb e 2 ≡ q → ((x : Refusal) → opened p q ≡ Refused x → ⊥) → (opened p q ≡ Start) × ((e ≡ 1) ⊎ (e ≡ 2))
-    by true q s t goes = (refl, inl (eqb-true e 1 s))
-    by false true s t goes = (refl, inr (eqb-true e 2 t))
-    by false false s t goes = absurd (goes _ refl)
+    by : (p : Bool) → known e ≡ p → ((x : Refusal) → opened p ≡ Refused x → ⊥) → (opened p ≡ Start) × (known e ≡ true)
+    by true q goes = (refl, q)
+    by false q goes = absurd (goes _ refl)
 
 -- pieces and a rest are a file that keeps the rules
 record Whole (e : ℕ) (ps : List (List ℕ)) (rest : List ℕ) : Type 0 where
@@ -71,7 +69,7 @@ whole e (p ∷ ps) rest a q clear h =
     let st = openOf e in
     let one = piece st p ps rest a h in
     let r = one .bytes in
-    let line : noLf r ≡ true = sym (with-cr r) ∙ ap noLf (sym (one .is)) ∙ both-left (noLf p) (allNoLf ps) clear in
+    let line : noLf r ≡ true = sym (with-cr-clear r) ∙ ap noLf (sym (one .is)) ∙ both-left (noLf p) (allNoLf ps) clear in
     let took = stepped st r (open-small e) line (one .goes) in
     let place : placed Start (took .kind) ≡ true = ap (λ s. placed s (took .kind)) (sym q) ∙ took .place in
     let others : NextKept A0 st r → BatchesLeft e 2 ps rest =
@@ -85,11 +83,11 @@ pub accepted-kept : (e : ℕ) (bytes : List ℕ) (a : Accepted) → checkOf e by
 accepted-kept e bytes a h =
     let ls = cut bytes in
     let c = cut-is-cut bytes in
-    let is = known e (alive (openOf e) (ls .pieces) (ls .rest) a h) in
+    let is = is-known e (alive (openOf e) (ls .pieces) (ls .rest) a h) in
     let w = whole e (ls .pieces) (ls .rest) a (is .0) (c .pieces-clear) h in
     record {
-      known = is .1;
+      edition-known = is .1;
       file = w .file;
       keeps = w .keeps;
-      is = sym (c .whole) ∙ ap₂ rejoined (w .is) (w .none-left) ∙ pieces-joined (recordsOf (w .file));
+      is = sym (c .whole) ∙ ap₂ rejoined (w .is) (w .none-left) ∙ sym (records-are-pieces (recordsOf (w .file)) []) ∙ append-nil _;
     }

@@ -8,6 +8,7 @@ use native.Mathlib.Omega.{arith}
 use lib.ListN.{length, length-append}
 use Rattle.text.proofs.Alphabets.{both-left, both-right}
 use Rattle.lines.specs.Lines.{noLf, allNoLf, withCr}
+use Rattle.lines.proofs.Cuts.{with-cr-clear}
 use Rattle.card_record.specs.declared.kind.Kind.{Kind}
 use Rattle.card_record.specs.declared.kind.Kind.the-variants.{A0, L0, Cv, L9, A9}
 use Rattle.card_run.specs.declared.stage.Stage.{Stage}
@@ -15,12 +16,12 @@ use Rattle.card_run.specs.declared.stage.Stage.the-variants.{BetweenBatches, In
 use Rattle.card_run.specs.declared.running.Running.{Running}
 use Rattle.card_run.specs.declared.answer.Accepted.{Accepted}
 use Rattle.card_run.specs.Stage.{placed}
-use Rattle.card_run.specs.Running.{fedOf}
+use Rattle.card_file.specs.Feeding.{fedOf}
 use Rattle.card_kept.specs.Records.{L9Kept, A9Kept}
-use Rattle.card_kept.specs.Kept.{Batch, batchRecords, batchesRecords, payableGross, sumOver, SalesKept, BatchesKept}
+use Rattle.card_kept.specs.Sale.{payableGross}
+use Rattle.card_kept.specs.Kept.{Batch, batchRecords, batchesRecords, sumOver, SalesKept, BatchesKept}
 use Rattle.card_kept.proofs.Next.{NextKept}
 use Rattle.card_kept.proofs.PlainSteps.{behindPlain, Small, still-small, step, stepped}
-use Rattle.card_kept.proofs.OneLine.{with-cr}
 use Rattle.card_kept.proofs.Refused.{EndsAccepted, piece, too-early, nothing-behind}
 use Rattle.card_kept.proofs.Batches.{l9-at}
 
@@ -46,8 +47,8 @@ pub record SalesLeft (e n sales gross : ℕ) (ps : List (List ℕ)) (rest : List
 -- what an accepted run says of the pieces
 abbrev pub SaysLeft : Running → List (List ℕ) → List ℕ → Type 0
 SaysLeft st ps rest =
-    (st .stage ≡ BetweenBatches → BatchesLeft (st .edition) (suc (st .records)) ps rest) ×
-    (st .stage ≡ InBatch → SalesLeft (st .edition) (suc (st .records)) (st .batch .sales) (st .batch .amounts .gross) ps rest)
+    (st .stage ≡ BetweenBatches → BatchesLeft (st .edition) (suc (st .numbers .records)) ps rest) ×
+    (st .stage ≡ InBatch → SalesLeft (st .edition) (suc (st .numbers .records)) (st .batch .sales) (st .batch .gross) ps rest)
 
 -- records of two lists
 map-row : (rs ss : List (List ℕ)) → map withCr (rs ++ ss) ≡ map withCr rs ++ map withCr ss
@@ -60,12 +61,12 @@ module _ (st : Running) (r : List ℕ) (ps : List (List ℕ)) (rest : List ℕ) 
   went-on kind place k = subst (λ s. EndsAccepted s ps rest a) (step st r small kind place k) taken
 
   -- an L0 and a batch, before others
-  open-batch : NextKept L0 st r → SalesLeft (st .edition) (suc (suc (st .records))) 0 0 ps rest → BatchesLeft (st .edition) (suc (st .records)) (withCr r ∷ ps) rest
+  open-batch : NextKept L0 st r → SalesLeft (st .edition) (suc (suc (st .numbers .records))) 0 0 ps rest → BatchesLeft (st .edition) (suc (st .numbers .records)) (withCr r ∷ ps) rest
   unfolding batchesRecords BatchesKept
   open-batch k s =
       let b : Batch = record { l0 = r; sales = s .more; l9 = s .l9 } in
       let others = s .batches in
-      let n = suc (st .records) in
+      let n = suc (st .numbers .records) in
       let l = length-append (s .more) (s .l9 ∷ []) in
       let count : suc (suc n + length (s .more)) ≡ n + length (batchRecords b) = omega arith in
       let total : suc (suc n + length (s .more)) + length (batchesRecords (others .batches)) ≡ n + length (batchRecords b ++ batchesRecords (others .batches)) =
@@ -87,11 +88,11 @@ module _ (st : Running) (r : List ℕ) (ps : List (List ℕ)) (rest : List ℕ) 
       }
 
   -- the trailer of the file
-  close-file : NextKept A9 st r → placed (st .stage) A9 ≡ true → BatchesLeft (st .edition) (suc (st .records)) (withCr r ∷ ps) rest
+  close-file : NextKept A9 st r → placed (st .stage) A9 ≡ true → BatchesLeft (st .edition) (suc (st .numbers .records)) (withCr r ∷ ps) rest
   unfolding batchesRecords BatchesKept
   close-file k place =
       let none = nothing-behind (behindPlain A9 st r) ps rest a refl (went-on A9 place k) in
-      let number : suc (st .records) ≡ suc (st .records) + 0 = omega arith in
+      let number : suc (st .numbers .records) ≡ suc (st .numbers .records) + 0 = omega arith in
       record {
         batches = [];
         a9 = r;
@@ -103,11 +104,11 @@ module _ (st : Running) (r : List ℕ) (ps : List (List ℕ)) (rest : List ℕ) 
 
   -- one sale more
   one-sale : NextKept Cv st r →
-      SalesLeft (st .edition) (suc (suc (st .records))) (st .batch .sales + 1) (st .batch .amounts .gross + payableGross r) ps rest →
-      SalesLeft (st .edition) (suc (st .records)) (st .batch .sales) (st .batch .amounts .gross) (withCr r ∷ ps) rest
+      SalesLeft (st .edition) (suc (suc (st .numbers .records))) (st .batch .sales + 1) (st .batch .gross + payableGross r) ps rest →
+      SalesLeft (st .edition) (suc (st .numbers .records)) (st .batch .sales) (st .batch .gross) (withCr r ∷ ps) rest
   unfolding SalesKept sumOver
   one-sale k s =
-      let n = suc (st .records) in
+      let n = suc (st .numbers .records) in
       let number : suc n + length (s .more) ≡ n + suc (length (s .more)) = omega arith in
       record {
         more = r ∷ s .more;
@@ -120,11 +121,11 @@ module _ (st : Running) (r : List ℕ) (ps : List (List ℕ)) (rest : List ℕ) 
       }
 
   -- the trailer of a batch
-  close-batch : NextKept L9 st r → BatchesLeft (st .edition) (suc (suc (st .records))) ps rest →
-      SalesLeft (st .edition) (suc (st .records)) (st .batch .sales) (st .batch .amounts .gross) (withCr r ∷ ps) rest
+  close-batch : NextKept L9 st r → BatchesLeft (st .edition) (suc (suc (st .numbers .records))) ps rest →
+      SalesLeft (st .edition) (suc (st .numbers .records)) (st .batch .sales) (st .batch .gross) (withCr r ∷ ps) rest
   unfolding SalesKept sumOver
   close-batch k b =
-      let number : suc (st .records) ≡ suc (st .records) + 0 = omega arith in
+      let number : suc (st .numbers .records) ≡ suc (st .numbers .records) + 0 = omega arith in
       record {
         more = [];
         l9 = r;
@@ -141,7 +142,7 @@ module _ (st : Running) (r : List ℕ) (ps : List (List ℕ)) (rest : List ℕ) 
     follows kind place k = others (behindPlain kind st r) (still-small st r small kind k) (went-on kind place k)
 
     between : (kind : Kind) → placed (st .stage) kind ≡ true → placed BetweenBatches kind ≡ true → NextKept kind st r →
-        BatchesLeft (st .edition) (suc (st .records)) (withCr r ∷ ps) rest
+        BatchesLeft (st .edition) (suc (st .numbers .records)) (withCr r ∷ ps) rest
     between A0 place p k = absurd (false≢true p)
     between L0 place p k = open-batch k (follows L0 place k .1 refl)
     between Cv place p k = absurd (false≢true p)
@@ -149,7 +150,7 @@ module _ (st : Running) (r : List ℕ) (ps : List (List ℕ)) (rest : List ℕ) 
     between A9 place p k = close-file k place
 
     inside : (kind : Kind) → placed (st .stage) kind ≡ true → placed InBatch kind ≡ true → NextKept kind st r →
-        SalesLeft (st .edition) (suc (st .records)) (st .batch .sales) (st .batch .amounts .gross) (withCr r ∷ ps) rest
+        SalesLeft (st .edition) (suc (st .numbers .records)) (st .batch .sales) (st .batch .gross) (withCr r ∷ ps) rest
     inside A0 place p k = absurd (false≢true p)
     inside L0 place p k = absurd (false≢true p)
     inside Cv place p k = one-sale k (follows Cv place k .1 refl)
@@ -164,13 +165,13 @@ says [] rest a st clear small h =
 says (p ∷ ps) rest a st clear small h =
     let one = piece st p ps rest a h in
     let r = one .bytes in
-    let line : noLf r ≡ true = sym (with-cr r) ∙ ap noLf (sym (one .is)) ∙ both-left (noLf p) (allNoLf ps) clear in
+    let line : noLf r ≡ true = sym (with-cr-clear r) ∙ ap noLf (sym (one .is)) ∙ both-left (noLf p) (allNoLf ps) clear in
     let took = stepped st r small line (one .goes) in
     let others : (next : Running) → Small next → EndsAccepted next ps rest a → SaysLeft next ps rest =
     λ next s t. says ps rest a next (both-right (noLf p) (allNoLf ps) clear) s t in
     let at : (s : Stage) → st .stage ≡ s → placed s (took .kind) ≡ true = λ s q. ap (λ s. placed s (took .kind)) (sym q) ∙ took .place in (
-      λ q. subst (λ p. BatchesLeft (st .edition) (suc (st .records)) (p ∷ ps) rest) (sym (one .is))
+      λ q. subst (λ p. BatchesLeft (st .edition) (suc (st .numbers .records)) (p ∷ ps) rest) (sym (one .is))
           (between st r ps rest a small (one .taken) others (took .kind) (took .place) (at BetweenBatches q) (took .kept)),
-      λ q. subst (λ p. SalesLeft (st .edition) (suc (st .records)) (st .batch .sales) (st .batch .amounts .gross) (p ∷ ps) rest) (sym (one .is))
+      λ q. subst (λ p. SalesLeft (st .edition) (suc (st .numbers .records)) (st .batch .sales) (st .batch .gross) (p ∷ ps) rest) (sym (one .is))
           (inside st r ps rest a small (one .taken) others (took .kind) (took .place) (at InBatch q) (took .kept)),
     )

@@ -7,9 +7,14 @@ pub mod PlainTotals
 pub mod PlainSteps
 pub mod OneLine
 pub mod Batches
+pub mod Stays
 pub mod Accepting
 pub mod Refused
 pub mod Left
 pub mod Inverting
 pub mod Numbers
 pub mod KeptMeansKept
+pub mod AtItsPlace
+pub mod Standing
+pub mod Outcomes
+pub mod FirstFault

@@ -19,23 +19,24 @@ use Rattle.card_content.proofs.Ranges.{number-below}
 use Rattle.card_sale.specs.Cv.{joinedRules}
 use Rattle.card_record.specs.declared.kind.Kind.{Kind}
 use Rattle.card_record.specs.declared.kind.Kind.the-variants.{A0, L0, Cv, L9, A9}
-use Rattle.card_record.specs.Reading.{widthOf, tableOf, numbersOf}
+use Rattle.card_record.specs.Reading.{widthOf, tableOf, rightReading}
 use Rattle.card_record.proofs.Readings.{Right}
 use Rattle.card_run.specs.declared.running.Running.{Running}
-use Rattle.card_run.specs.Running.{nextNumber, joinedAt}
+use Rattle.card_run.specs.Running.{nextNumber}
+use Rattle.card_step.specs.Rules.{joinedAt}
 use Rattle.card_kept.specs.Fields.{FieldsKept, numberAt}
-use Rattle.card_kept.specs.Records.{Kind as OfKind, A0Kept, L0Kept, CvKept, L9Kept, A9Kept}
+use Rattle.card_kept.specs.Records.{RecordOf, A0Kept, L0Kept, CvKept, L9Kept, A9Kept}
 use Rattle.card_kept.proofs.FieldsKept.{plain-number}
 use Rattle.card_kept.proofs.RecordsKept.{nameOf, right-named, right-fields, is-right}
 use Rattle.card_kept.proofs.Sales.{plain-cv, joined-hold, joined-kept}
 
 -- a record of a kind keeps the rules as the next one of a state
 abbrev pub NextKept : Kind → Running → List ℕ → Type 0
-NextKept A0 st r = A0Kept (st .edition) (suc (st .records)) r
-NextKept L0 st r = L0Kept (st .edition) (suc (st .records)) r
-NextKept Cv st r = CvKept (st .edition) (suc (st .records)) r
-NextKept L9 st r = L9Kept (st .batch .sales) (st .batch .amounts .gross) (st .edition) (suc (st .records)) r
-NextKept A9 st r = A9Kept (st .edition) (suc (st .records)) r
+NextKept A0 st r = A0Kept (st .edition) (suc (st .numbers .records)) r
+NextKept L0 st r = L0Kept (st .edition) (suc (st .numbers .records)) r
+NextKept Cv st r = CvKept (st .edition) (suc (st .numbers .records)) r
+NextKept L9 st r = L9Kept (st .batch .sales) (st .batch .gross) (st .edition) (suc (st .numbers .records)) r
+NextKept A9 st r = A9Kept (st .edition) (suc (st .numbers .records)) r
 
 -- the digits of NSEQ, the last six positions of each kind
 abbrev nseqField : Kind → Field
@@ -46,7 +47,7 @@ nseqField L9 = field 23 28 Digits
 nseqField A9 = field 9 14 Digits
 
 abbrev NumberedKind : Kind → ℕ → ℕ → List ℕ → Type 0
-NumberedKind kind = OfKind (nameOf kind) (widthOf kind) (tableOf kind) (nseqField kind .0) (nseqField kind .1)
+NumberedKind kind = RecordOf (nameOf kind) (widthOf kind) (tableOf kind) (nseqField kind .0) (nseqField kind .1)
 
 nseq-digits : (kind : Kind) (e : ℕ) (r : List ℕ) → FieldsKept e r (tableOf kind) →
     holdsOnly digits (positions (nseqField kind .0) (nseqField kind .1) r) ≡ true
@@ -72,7 +73,7 @@ short-nseq Cv = (refl, refl)
 short-nseq L9 = (refl, refl)
 short-nseq A9 = (refl, refl)
 
-pub of-kind : (kind : Kind) (st : Running) (r : List ℕ) → NextKept kind st r → NumberedKind kind (st .edition) (suc (st .records)) r
+pub of-kind : (kind : Kind) (st : Running) (r : List ℕ) → NextKept kind st r → NumberedKind kind (st .edition) (suc (st .numbers .records)) r
 of-kind A0 st r k = k
 of-kind L0 st r k = k
 of-kind Cv st r k = k .kind
@@ -80,7 +81,7 @@ of-kind L9 st r k = k .kind
 of-kind A9 st r k = k .kind
 
 -- so it is below 10^6
-pub number-small : (kind : Kind) (st : Running) (r : List ℕ) → NextKept kind st r → suc (st .records) < 10 ^ 6
+pub number-small : (kind : Kind) (st : Running) (r : List ℕ) → NextKept kind st r → suc (st .numbers .records) < 10 ^ 6
 number-small kind st r k =
     let of = of-kind kind st r k in
     let f = nseqField kind in
@@ -94,14 +95,14 @@ kept-right kind st r k =
     is-right kind (st .edition) r (of .named) (of .wide) (of .fields)
 
 -- and its joined rules hold, where the next number is not capped
-module _ (st : Running) (r : List ℕ) (next : nextNumber st ≡ suc (st .records)) where
+module _ (st : Running) (r : List ℕ) (next : nextNumber st ≡ suc (st .numbers .records)) where
   numbered : (kind : Kind) → NextKept kind st r → eqb (numberIn (nseqField kind) r) (nextNumber st) ≡ true
   numbered kind k =
       let of = of-kind kind st r k in
       number-reads (nseqField kind) r (short-nseq kind .0) (nseq-digits kind (st .edition) r (of .fields)) (of .nseq ∙ sym next)
 
-  pub kept-joined : (kind : Kind) → NextKept kind st r → allHold (joinedAt st (numbersOf kind r)) ≡ true
-  unfolding allHold joinedAt numbersOf
+  pub kept-joined : (kind : Kind) → NextKept kind st r → allHold (joinedAt st (rightReading kind r)) ≡ true
+  unfolding allHold joinedAt rightReading
   kept-joined A0 k = both (numbered A0 k) refl
   kept-joined L0 k = both (numbered L0 k) refl
   kept-joined Cv k =
@@ -117,7 +118,7 @@ module _ (st : Running) (r : List ℕ) (next : nextNumber st ≡ suc (st .record
   -- a right record in one line, whose joined rules hold, keeps the rules
   module _ (line : noLf r ≡ true) where
     stands : (kind : Kind) → Right kind (st .edition) r → eqb (numberIn (nseqField kind) r) (nextNumber st) ≡ true →
-        NumberedKind kind (st .edition) (suc (st .records)) r
+        NumberedKind kind (st .edition) (suc (st .numbers .records)) r
     stands kind right nseq =
         let fields = right-fields kind (st .edition) r right in
         record {
@@ -128,8 +129,8 @@ module _ (st : Running) (r : List ℕ) (next : nextNumber st ≡ suc (st .record
           in-one-line = line;
         }
 
-    pub joined-next : (kind : Kind) → Right kind (st .edition) r → allHold (joinedAt st (numbersOf kind r)) ≡ true → NextKept kind st r
-    unfolding allHold joinedAt numbersOf
+    pub joined-next : (kind : Kind) → Right kind (st .edition) r → allHold (joinedAt st (rightReading kind r)) ≡ true → NextKept kind st r
+    unfolding allHold joinedAt rightReading
     joined-next A0 right h = stands A0 right (both-left (eqb (numberIn (nseqField A0) r) (nextNumber st)) true h)
     joined-next L0 right h = stands L0 right (both-left (eqb (numberIn (nseqField L0) r) (nextNumber st)) true h)
     joined-next Cv right h =
@@ -140,7 +141,7 @@ module _ (st : Running) (r : List ℕ) (next : nextNumber st ≡ suc (st .record
     joined-next L9 right h =
         let nseq = eqb (numberIn (nseqField L9) r) (nextNumber st) in
         let count = eqb (numberIn (field 3 8 Digits) r) (st .batch .sales) in
-        let sum = eqb (numberIn (field 9 22 Digits) r) (st .batch .amounts .gross) in
+        let sum = eqb (numberIn (field 9 22 Digits) r) (st .batch .gross) in
         let kind = stands L9 right (both-left nseq (count && (sum && true)) h) in
         let rest = both-right nseq (count && (sum && true)) h in
         record {

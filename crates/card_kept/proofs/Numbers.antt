@@ -8,7 +8,8 @@ use borrow.Author.Tests.{eq-eqb, ne-eqb}
 use Rattle.totals.proofs.Totals.{gross, discount, net, figureOf}
 use Rattle.card_kept.specs.Fields.{numberAt}
 use Rattle.card_kept.specs.Records.{CvKept, NoInstalment, Instalment}
-use Rattle.card_kept.specs.Kept.{Batch, payableGross, payableDiscount, payableNet, sumOver, SalesKept, BatchesKept, Kept, batchesSales}
+use Rattle.card_kept.specs.Sale.{payableGross, payableDiscount, payableNet}
+use Rattle.card_kept.specs.Kept.{Batch, sumOver, SalesKept, BatchesKept, Kept, batchesSales}
 use Rattle.card_kept.specs.Numbers.{Numbers}
 use Rattle.card_kept.proofs.PlainTotals.{sold-row}
 use Rattle.card_kept.proofs.Accepting.{plainNumbers, file-taken}
@@ -18,7 +19,7 @@ payable-agrees : (e n : ℕ) (r : List ℕ) → CvKept e n r → payableGross r 
 payable-agrees e n r k = by (k .paid)
   where
     by : NoInstalment r ⊎ Instalment r → payableGross r ≡ payableDiscount r + payableNet r
-    by (inl p) = rw (eq-eqb _ _ (p .instalment), eq-eqb _ _ (p .instalments)) (k .sale-agrees)
+    by (inl p) = rw (eq-eqb _ _ (p .no-instalment), eq-eqb _ _ (p .no-instalments)) (k .sale-agrees)
     by (inr p) =
         let some : numberAt 107 108 r ≡ 0 → ⊥ = λ e. omega (arith, p .from-one) in
         rw (ne-eqb _ _ some) (p .agrees)
@@ -48,7 +49,7 @@ pub plain : (e : ℕ) (bytes : List ℕ) (k : Kept e bytes) → Numbers (k .file
 unfolding figureOf
 plain e bytes k =
     let f = k .file in
-    let small = file-taken e f (k .known) (k .keeps) .small in
+    let small = file-taken e f (k .edition-known) (k .keeps) .small in
     record {
       date = refl;
       movement = refl;

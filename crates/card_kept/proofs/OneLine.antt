@@ -1,25 +1,12 @@
--- The records of a file that keeps the rules hold no LF, so the file is cut into them; and pieces that are records joined again are the file.
+-- The records of a file that keeps the rules hold no LF, so the file is cut into them.
 use Prim.Native.Nat.{ℕ, suc}
-use mathlib.Core.Path.{_≡_, refl, ap}
-use mathlib.Core.List.{List, [], _∷_, _++_, map, append-assoc}
-use mathlib.Core.Bool.{Bool, true, false, cond, _&&_}
-use lib.Dec.{eqb}
+use mathlib.Core.Path.{_≡_, refl}
+use mathlib.Core.List.{List, [], _∷_, _++_, map}
+use mathlib.Core.Bool.{Bool, true, false, _&&_}
 use Rattle.text.proofs.Alphabets.{both}
-use Rattle.lines.specs.Lines.{lf, cut, rejoined, joined, noLf, allNoLf, withCr}
+use Rattle.lines.specs.Lines.{cut, joined, noLf, allNoLf, withCr}
 use Rattle.lines.proofs.Cuts.{cut-joined}
 use Rattle.card_kept.specs.Kept.{Batch, File, batchRecords, batchesRecords, recordsOf, SalesKept, BatchKept, BatchesKept, FileKept}
-
--- a CR is no LF
-pub with-cr : (r : List ℕ) → noLf (withCr r) ≡ noLf r
-unfolding noLf
-with-cr [] = refl
-with-cr (b ∷ r) = ap (λ q. cond (eqb b lf) false q) (with-cr r)
-
--- records, each with its CR and then an LF
-pub pieces-joined : (rs : List (List ℕ)) → rejoined (map withCr rs) [] ≡ joined rs
-unfolding joined rejoined
-pieces-joined [] = refl
-pieces-joined (r ∷ rs) = simp (append-assoc, pieces-joined rs)
 
 -- records in a row
 row-clear : (rs ss : List (List ℕ)) → allNoLf rs ≡ true → allNoLf ss ≡ true → allNoLf (rs ++ ss) ≡ true

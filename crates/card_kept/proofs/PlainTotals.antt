@@ -10,7 +10,8 @@ use Rattle.totals.specs.Amounts.{noTotals, oneSale, addedTotals}
 use Rattle.totals.proofs.Totals.{Figure, sales, gross, discount, net, figureOf, by-figure, figure-added, figure-of-none}
 use Rattle.card_sale.specs.Cv.{cvTable, cvOf, payable}
 use Rattle.card_kept.specs.Fields.{FieldsKept}
-use Rattle.card_kept.specs.Kept.{payableGross, payableDiscount, payableNet, sumOver}
+use Rattle.card_kept.specs.Sale.{payableGross, payableDiscount, payableNet}
+use Rattle.card_kept.specs.Kept.{sumOver}
 use Rattle.card_kept.proofs.Sales.{plain-cv, payable-is, payable-below}
 
 -- how many sales there are, and the sums of what is payable of them, as whole numbers

@@ -15,9 +15,12 @@ use Rattle.card_run.specs.declared.running.Running.{Running}
 use Rattle.card_run.specs.declared.answer.Accepted.{Accepted}
 use Rattle.card_run.specs.declared.answer.CardAnswer.the-variants.{Accepted as accepted, Refused as refused}
 use Rattle.card_run.specs.Stage.{placed}
-use Rattle.card_run.specs.Running.{tookAt, fedOf, closedAt, closedOf}
+use Rattle.card_run.specs.Running.{closedAt, closedOf, lateAt}
+use Rattle.card_step.specs.Step.{tookAt}
+use Rattle.card_file.specs.Feeding.{fedOf}
 use Rattle.card_run.specs.Answer.{answerAt, answerOf}
 use Rattle.card_file.specs.CardFile.{unendedAt, unendedOf, lineOf, linesOf, endOf}
+use Rattle.card_kept.proofs.Stays as stays
 use Rattle.card_kept.proofs.Steps.{Alive, went}
 
 -- a run over pieces and a rest is accepted
@@ -26,7 +29,7 @@ EndsAccepted st ps rest a = answerOf (endOf (linesOf st ps) rest) ≡ accepted a
 
 -- bytes without a line end are refused, at each stage
 unended-refused : (s : Stage) (st : Running) → st .stage ≡ s → Alive (unendedAt s st) → ⊥
-unfolding unendedAt
+unfolding unendedAt lateAt
 unended-refused Start st q alive = alive _ refl
 unended-refused BetweenBatches st q alive = alive _ refl
 unended-refused InBatch st q alive = alive _ refl
@@ -42,36 +45,10 @@ answer-alive st a h x q =
     let z : _≡_ {A = ℕ} 0 1 = cc in
     omega arith
 
--- a refused run stays as it is
-module _ (st : Running) (x : Refusal) (q : st .stage ≡ Refused x) where
-  unended-same : unendedOf st ≡ st
-  unfolding unendedAt
-  unended-same = ap (λ s. unendedAt s st) q
-
-  line-same : (p : List ℕ) → lineOf st p ≡ st
-  unfolding tookAt
-  line-same p = by (endsInCr p)
-    where
-      by : (t : Bool) → cond t (fedOf st (withoutLast p)) (unendedOf st) ≡ st
-      by true = ap (λ s. tookAt s st (readingOf (st .edition) (withoutLast p))) q
-      by false = unended-same
-
-  lines-same : (ps : List (List ℕ)) → linesOf st ps ≡ st
-  unfolding linesOf
-  lines-same [] = refl
-  lines-same (p ∷ ps) = ap (λ s. linesOf s ps) (line-same p) ∙ lines-same ps
-
-  end-same : (rest : List ℕ) → endOf st rest ≡ st
-  unfolding endOf closedAt
-  end-same [] = ap (λ s. closedAt s st) q
-  end-same (b ∷ s) = unended-same
-
-  stays : (ps : List (List ℕ)) (rest : List ℕ) → endOf (linesOf st ps) rest ≡ st
-  stays ps rest = ap (λ s. endOf s rest) (lines-same ps) ∙ end-same rest
-
 -- so a run that is accepted is not refused
 pub alive : (st : Running) (ps : List (List ℕ)) (rest : List ℕ) (a : Accepted) → EndsAccepted st ps rest a → Alive st
-alive st ps rest a h x q = answer-alive st a (sym (ap answerOf (stays st x q ps rest)) ∙ h) x q
+alive st ps rest a h x q =
+    answer-alive st a (sym (ap answerOf (stays.ran x st (record { pieces = ps; rest = rest }) q)) ∙ h) x q
 
 -- each piece is a record with its CR, that the run takes
 pub record Piece (st : Running) (p : List ℕ) (ps : List (List ℕ)) (rest : List ℕ) (a : Accepted) : Type 0 where

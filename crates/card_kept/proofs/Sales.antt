@@ -18,7 +18,7 @@ use Rattle.card_sale.specs.Cv.{cvTable, cvOf, hasInstalment, payable, joinedRul
 use Rattle.card_sale.proofs.Ranges.{AmountsBelow, cv-below}
 use Rattle.card_kept.specs.Fields.{FieldsKept, numberAt}
 use Rattle.card_kept.specs.Records.{NoInstalment, Instalment}
-use Rattle.card_kept.specs.Kept.{payableGross, payableDiscount, payableNet}
+use Rattle.card_kept.specs.Sale.{payableGross, payableDiscount, payableNet}
 use Rattle.card_kept.proofs.FieldsKept.{plain-number}
 
 -- the numbers that stand in a CV, digits being there
@@ -104,8 +104,8 @@ joined-hold r h =
           let zeros = both-right nsu (gross && (discount && net)) (n .1) in
           let last = both-right gross (discount && net) zeros in
           inl (record {
-            instalment = eqb-true _ _ (both-left first second (n .0));
-            instalments = eqb-true _ _ (both-right first second (n .0));
+            no-instalment = eqb-true _ _ (both-left first second (n .0));
+            no-instalments = eqb-true _ _ (both-right first second (n .0));
             nsu = eqb-true _ _ (both-left nsu (gross && (discount && net)) (n .1));
             gross = eqb-true _ _ (both-left gross (discount && net) zeros);
             discount = eqb-true _ _ (both-left discount net last);
@@ -128,8 +128,8 @@ unfolding allHold joinedRules
 joined-kept r sale (inl n) =
     rw (
       eq-eqb _ _ sale,
-      eq-eqb _ _ (n .instalment),
-      eq-eqb _ _ (n .instalments),
+      eq-eqb _ _ (n .no-instalment),
+      eq-eqb _ _ (n .no-instalments),
       eq-eqb _ _ (n .nsu),
       eq-eqb _ _ (n .gross),
       eq-eqb _ _ (n .discount),

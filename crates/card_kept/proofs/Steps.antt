@@ -18,13 +18,17 @@ use Rattle.card_record.specs.declared.kind.Kind.{Kind}
 use Rattle.card_record.specs.declared.kind.Kind.the-variants.{A0, L0, Cv, L9, A9}
 use Rattle.card_record.specs.declared.reading.Reading.{Reading}
 use Rattle.card_record.specs.declared.reading.Reading.the-variants.{Unknown as unknown, Faulty as faulty, A0 as a0, L0 as l0, Cv as cv, L9 as l9, A9 as a9}
-use Rattle.card_record.specs.Reading.{numbersOf, readingOf}
+use Rattle.card_record.specs.Reading.{rightReading, readingOf}
 use Rattle.card_record.proofs.Readings.{Right, says, said}
+use Rattle.card_run.specs.Running.{lateAt}
 use Rattle.card_run.specs.declared.stage.Stage.{Stage}
 use Rattle.card_run.specs.declared.stage.Stage.the-variants.{Start, BetweenBatches, InBatch, Ended, Closed, Refused}
 use Rattle.card_run.specs.declared.running.Running.{Running}
 use Rattle.card_run.specs.Stage.{placed}
-use Rattle.card_run.specs.Running.{placeRule, joinedAt, runRules, behind, settled, judgedOf, tookAt, tookOf, fedOf}
+use Rattle.card_step.specs.Rules.{placeRule, joinedAt, rulesOf}
+use Rattle.card_step.specs.Behind.{behind}
+use Rattle.card_step.specs.Step.{behindOrRefused, judgedOf, tookAt, tookOf}
+use Rattle.card_file.specs.Feeding.{fedOf}
 
 -- a run that is not refused
 abbrev pub Alive : Running → Type 0
@@ -34,11 +38,11 @@ Alive st = (refusal : Refusal) → st .stage ≡ Refused refusal → ⊥
 pub record GoesOn (kind : Kind) (st : Running) (r : List ℕ) : Type 0 where
   pub place : placed (st .stage) kind ≡ true
   pub right : Right kind (st .edition) r
-  pub joined : allHold (joinedAt st (numbersOf kind r)) ≡ true
+  pub joined : allHold (joinedAt st (rightReading kind r)) ≡ true
 
 -- a right record reads as its numbers
-right-reads : (kind : Kind) (e : ℕ) (r : List ℕ) → Right kind e r → readingOf e r ≡ numbersOf kind r
-unfolding numbersOf
+right-reads : (kind : Kind) (e : ℕ) (r : List ℕ) → Right kind e r → readingOf e r ≡ rightReading kind r
+unfolding rightReading
 right-reads A0 e r right = said e r (a0 (a0Of r)) (right, refl)
 right-reads L0 e r right = said e r (l0 (l0Of r)) (right, refl)
 right-reads Cv e r right = said e r (cv (cvOf r)) (right, refl)
@@ -46,8 +50,8 @@ right-reads L9 e r right = said e r (l9 (l9Of r)) (right, refl)
 right-reads A9 e r right = said e r (a9 (a9Of r)) (right, refl)
 
 -- its rules: its place, and the joined ones
-rules-are : (kind : Kind) (st : Running) (r : List ℕ) → runRules st (numbersOf kind r) ≡ placeRule st kind ∷ joinedAt st (numbersOf kind r)
-unfolding runRules numbersOf
+rules-are : (kind : Kind) (st : Running) (r : List ℕ) → rulesOf st (rightReading kind r) ≡ placeRule st kind ∷ joinedAt st (rightReading kind r)
+unfolding rulesOf rightReading
 rules-are A0 st r = refl
 rules-are L0 st r = refl
 rules-are Cv st r = refl
@@ -56,7 +60,7 @@ rules-are A9 st r = refl
 
 -- where a kind may stand, what was read is judged
 is-judged : (s : Stage) (kind : Kind) (st : Running) (reading : Reading) → placed s kind ≡ true → tookAt s st reading ≡ judgedOf st reading
-unfolding tookAt
+unfolding tookAt lateAt
 is-judged Start kind st reading p = refl
 is-judged BetweenBatches kind st reading p = refl
 is-judged InBatch kind st reading p = refl
@@ -65,14 +69,14 @@ is-judged Closed kind st reading p = absurd (false≢true p)
 is-judged (Refused x) kind st reading p = absurd (false≢true p)
 
 -- so the run goes on
-pub goes-on : (kind : Kind) (st : Running) (r : List ℕ) → GoesOn kind st r → fedOf st r ≡ behind st (numbersOf kind r)
-unfolding settled allHold
+pub goes-on : (kind : Kind) (st : Running) (r : List ℕ) → GoesOn kind st r → fedOf st r ≡ behind st (rightReading kind r)
+unfolding behindOrRefused allHold
 goes-on kind st r g =
-    let numbers = numbersOf kind r in
+    let numbers = rightReading kind r in
     ap (tookOf st) (right-reads kind (st .edition) r (g .right)) ∙
     is-judged (st .stage) kind st numbers (g .place) ∙
-    ap (λ rules. settled st numbers (firstBroken rules)) (rules-are kind st r) ∙
-    ap (settled st numbers) (none-broken (placeRule st kind ∷ joinedAt st numbers) (both (g .place) (g .joined)))
+    ap (λ rules. behindOrRefused st numbers (firstBroken rules)) (rules-are kind st r) ∙
+    ap (behindOrRefused st numbers) (none-broken (placeRule st kind ∷ joinedAt st numbers) (both (g .place) (g .joined)))
 
 -- and it goes on behind no other record
 pub record Went (st : Running) (r : List ℕ) : Type 0 where
@@ -80,7 +84,7 @@ pub record Went (st : Running) (r : List ℕ) : Type 0 where
   pub goes : GoesOn kind st r
 
 module _ (st : Running) (r : List ℕ) where
-  went-as : (kind : Kind) → Right kind (st .edition) r → placed (st .stage) kind && allHold (joinedAt st (numbersOf kind r)) ≡ true → Went st r
+  went-as : (kind : Kind) → Right kind (st .edition) r → placed (st .stage) kind && allHold (joinedAt st (rightReading kind r)) ≡ true → Went st r
   went-as kind right h =
       record {
         kind = kind;
@@ -91,8 +95,8 @@ module _ (st : Running) (r : List ℕ) where
         };
       }
 
-  by-reading : (reading : Reading) → readingOf (st .edition) r ≡ reading → allHold (runRules st reading) ≡ true → Went st r
-  unfolding runRules allHold numbersOf
+  by-reading : (reading : Reading) → readingOf (st .edition) r ≡ reading → allHold (rulesOf st reading) ≡ true → Went st r
+  unfolding rulesOf allHold rightReading
   by-reading unknown e h = absurd (false≢true h)
   by-reading (faulty kind cause column) e h = absurd (false≢true (both-right (placed (st .stage) kind) false h))
   by-reading (a0 n) e h =
@@ -111,17 +115,17 @@ module _ (st : Running) (r : List ℕ) where
       let is = says (st .edition) r e in
       went-as A9 (is .0) (subst (λ n. placed (st .stage) A9 && allHold (joinedAt st (a9 n)) ≡ true) (is .1) h)
 
-  by-fault : (reading : Reading) (fault : Fault) → readingOf (st .edition) r ≡ reading → firstBroken (runRules st reading) ≡ fault →
-      Alive (settled st reading fault) → Went st r
-  unfolding settled
-  by-fault reading Nothing e f alive = by-reading reading e (all-hold (runRules st reading) f)
+  by-fault : (reading : Reading) (fault : Fault) → readingOf (st .edition) r ≡ reading → firstBroken (rulesOf st reading) ≡ fault →
+      Alive (behindOrRefused st reading fault) → Went st r
+  unfolding behindOrRefused
+  by-fault reading Nothing e f alive = by-reading reading e (all-hold (rulesOf st reading) f)
   by-fault reading (At cause column) e f alive = absurd (alive _ refl)
 
   judged : (reading : Reading) → readingOf (st .edition) r ≡ reading → Alive (judgedOf st reading) → Went st r
-  judged reading e alive = by-fault reading (firstBroken (runRules st reading)) e refl alive
+  judged reading e alive = by-fault reading (firstBroken (rulesOf st reading)) e refl alive
 
   by-stage : (s : Stage) (reading : Reading) → st .stage ≡ s → readingOf (st .edition) r ≡ reading → Alive (tookAt s st reading) → Went st r
-  unfolding tookAt
+  unfolding tookAt lateAt
   by-stage Start reading q e alive = judged reading e alive
   by-stage BetweenBatches reading q e alive = judged reading e alive
   by-stage InBatch reading q e alive = judged reading e alive

@@ -1,13 +1,12 @@
 -- A card file keeps document 01's rules.
 use Prim.Native.Nat.{ℕ, suc, _+_}
 use mathlib.Core.Path.{_≡_}
-use mathlib.Core.Logic.{_⊎_}
 use mathlib.Core.List.{List, [], _∷_, _++_}
-use mathlib.Core.Bool.{cond, _&&_}
+use mathlib.Core.Bool.{true}
 use lib.ListN.{length}
-use lib.Dec.{eqb}
 use Rattle.lines.specs.Lines.{joined}
-use Rattle.card_kept.specs.Fields.{numberAt}
+use Rattle.edition.specs.Known.{known}
+use Rattle.card_kept.specs.Sale.{payableGross}
 use Rattle.card_kept.specs.Records.{A0Kept, L0Kept, CvKept, L9Kept, A9Kept}
 
 -- "a batch is L0, any number of CV, L9"
@@ -32,20 +31,6 @@ batchesRecords (b ∷ bs) = batchRecords b ++ batchesRecords bs
 
 abbrev pub recordsOf : File → List (List ℕ)
 recordsOf f = f .a0 ∷ (batchesRecords (f .batches) ++ (f .a9 ∷ []))
-
--- "Payable means the instalment's amounts where there is an instalment, otherwise the sale's"
-abbrev pub payableAt : ℕ → ℕ → ℕ → ℕ → List ℕ → ℕ
-payableAt first last saleFirst saleLast r =
-    cond (eqb (numberAt 107 108 r) 0 && eqb (numberAt 109 110 r) 0) (numberAt saleFirst saleLast r) (numberAt first last r)
-
-abbrev pub payableGross : List ℕ → ℕ
-payableGross = payableAt 123 133 55 65
-
-abbrev pub payableDiscount : List ℕ → ℕ
-payableDiscount = payableAt 134 144 66 76
-
-abbrev pub payableNet : List ℕ → ℕ
-payableNet = payableAt 145 155 77 87
 
 -- a sum over records, as a whole number
 unfoldable pub sumOver : (List ℕ → ℕ) → List (List ℕ) → ℕ
@@ -73,9 +58,9 @@ pub record FileKept (edition : ℕ) (f : File) : Type 0 where
   pub batches : BatchesKept edition 2 (f .batches)
   pub a9 : A9Kept edition (2 + length (batchesRecords (f .batches))) (f .a9)
 
--- bytes keep document 01's rules under an edition: it is 1 or 2, and they are such a file's records, each followed by CR LF, joined
+-- bytes keep document 01's rules under an edition: it is known, and they are such a file's records, each followed by CR LF, joined
 pub record Kept (edition : ℕ) (bytes : List ℕ) : Type 0 where
-  pub known : (edition ≡ 1) ⊎ (edition ≡ 2)
+  pub edition-known : known edition ≡ true
   pub file : File
   pub keeps : FileKept edition file
   pub is : bytes ≡ joined (recordsOf file)

@@ -1,5 +1,7 @@
 pub mod Fields
+pub mod Sale
 pub mod Records
 pub mod Kept
 pub mod Numbers
 pub mod Accepts
+pub mod FirstFault

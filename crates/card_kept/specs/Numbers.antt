@@ -4,7 +4,8 @@ use mathlib.Core.Path.{_≡_}
 use lib.ListN.{length}
 use Rattle.card_run.specs.declared.answer.Accepted.{Accepted}
 use Rattle.card_kept.specs.Fields.{numberAt}
-use Rattle.card_kept.specs.Kept.{File, recordsOf, payableGross, payableDiscount, payableNet, sumOver, salesOf}
+use Rattle.card_kept.specs.Sale.{payableGross, payableDiscount, payableNet}
+use Rattle.card_kept.specs.Kept.{File, recordsOf, sumOver, salesOf}
 
 -- what an accepted file's numbers say of its records
 pub record Numbers (f : File) (a : Accepted) : Type 0 where

@@ -16,9 +16,20 @@ use Rattle.card_frame.specs.L0.{l0Table}
 use Rattle.card_frame.specs.L9.{l9Table}
 use Rattle.card_frame.specs.A9.{a9Table}
 use Rattle.card_kept.specs.Fields.{FieldsKept, numberAt}
+use Rattle.card_kept.specs.Sale.{
+  saleGross,
+  saleDiscount,
+  saleNet,
+  instalment,
+  instalments,
+  instalmentNsu,
+  instalmentGross,
+  instalmentDiscount,
+  instalmentNet,
+}
 
 -- a record of a kind: its name, its width, its fields, and NSEQ is its number; it holds no LF, at which the file is cut
-pub record Kind (name : String) (width : ℕ) (table : List Field) (first last : ℕ) (edition number : ℕ) (r : List ℕ) : Type 0 where
+pub record RecordOf (name : String) (width : ℕ) (table : List Field) (first last : ℕ) (edition number : ℕ) (r : List ℕ) : Type 0 where
   pub named : positions 1 2 r ≡ ascii name
   pub wide : length r ≡ width
   pub fields : FieldsKept edition r table
@@ -26,38 +37,38 @@ pub record Kind (name : String) (width : ℕ) (table : List Field) (first last :
   pub in-one-line : noLf r ≡ true
 
 abbrev pub A0Kept : ℕ → ℕ → List ℕ → Type 0
-A0Kept = Kind "A0" 75 a0Table 70 75
+A0Kept = RecordOf "A0" 75 a0Table 70 75
 
 abbrev pub L0Kept : ℕ → ℕ → List ℕ → Type 0
-L0Kept = Kind "L0" 18 l0Table 13 18
+L0Kept = RecordOf "L0" 18 l0Table 13 18
 
 -- "instalment and instalments are both zero", and with them columns 111, 123, 134 and 145
 pub record NoInstalment (r : List ℕ) : Type 0 where
-  pub instalment : numberAt 107 108 r ≡ 0
-  pub instalments : numberAt 109 110 r ≡ 0
-  pub nsu : numberAt 111 122 r ≡ 0
-  pub gross : numberAt 123 133 r ≡ 0
-  pub discount : numberAt 134 144 r ≡ 0
-  pub net : numberAt 145 155 r ≡ 0
+  pub no-instalment : instalment r ≡ 0
+  pub no-instalments : instalments r ≡ 0
+  pub nsu : instalmentNsu r ≡ 0
+  pub gross : instalmentGross r ≡ 0
+  pub discount : instalmentDiscount r ≡ 0
+  pub net : instalmentNet r ≡ 0
 
 -- "or 1 ≤ instalment ≤ instalments", and "its gross = discount + net"
 pub record Instalment (r : List ℕ) : Type 0 where
-  pub from-one : 1 ≤ numberAt 107 108 r
-  pub up-to : numberAt 107 108 r ≤ numberAt 109 110 r
-  pub agrees : numberAt 123 133 r ≡ numberAt 134 144 r + numberAt 145 155 r
+  pub from-one : 1 ≤ instalment r
+  pub up-to : instalment r ≤ instalments r
+  pub agrees : instalmentGross r ≡ instalmentDiscount r + instalmentNet r
 
 pub record CvKept (edition number : ℕ) (r : List ℕ) : Type 0 where
-  pub kind : Kind "CV" 199 cvTable 194 199 edition number r
-  pub sale-agrees : numberAt 55 65 r ≡ numberAt 66 76 r + numberAt 77 87 r
+  pub kind : RecordOf "CV" 199 cvTable 194 199 edition number r
+  pub sale-agrees : saleGross r ≡ saleDiscount r + saleNet r
   pub paid : NoInstalment r ⊎ Instalment r
 
 -- a trailer of a batch of so many sales with such a sum of payable gross
 pub record L9Kept (sales gross : ℕ) (edition number : ℕ) (r : List ℕ) : Type 0 where
-  pub kind : Kind "L9" 28 l9Table 23 28 edition number r
+  pub kind : RecordOf "L9" 28 l9Table 23 28 edition number r
   pub counts : numberAt 3 8 r ≡ sales
   pub sums : numberAt 9 22 r ≡ gross
 
 -- the trailer of a file: it counts every record of it, and so its own number
 pub record A9Kept (edition number : ℕ) (r : List ℕ) : Type 0 where
-  pub kind : Kind "A9" 14 a9Table 9 14 edition number r
+  pub kind : RecordOf "A9" 14 a9Table 9 14 edition number r
   pub counts : numberAt 3 8 r ≡ number

@@ -14,7 +14,7 @@ use Rattle.card_run.specs.declared.stage.Stage.the-variants.{Start, BetweenBatc
 use Rattle.card_run.specs.declared.running.Running.{Running}
 use Rattle.card_run.specs.declared.answer.Accepted.{Accepted as Numbers}
 use Rattle.card_run.specs.declared.answer.CardAnswer.the-variants.{Accepted}
-use Rattle.card_run.specs.Running.{openOf}
+use Rattle.card_run.specs.Running.{openOf, lateAt}
 use Rattle.card_run.specs.Answer.{answerAt, answerOf}
 use Rattle.card_file.specs.CardFile.{unendedAt, linesOf, endOf, checkOf}
 use Rattle.card_mask.specs.Masked.{maskedPiece, maskedFile, finishedIn}
@@ -72,7 +72,7 @@ all-chunks a (c ∷ cs) =
 
 -- an accepted file leaves no byte behind its last LF: bytes without a line end are refused
 refused-there : (st : Running) (a : Numbers) (stage : Stage) → st .stage ≡ stage → answerOf (unendedAt stage st) ≡ Accepted a → ⊥
-unfolding unendedAt answerAt
+unfolding unendedAt answerAt lateAt
 refused-there st a Start e q = absurd (let z : _≡_ {A = ℕ} 0 1 = cc in omega arith)
 refused-there st a BetweenBatches e q = absurd (let z : _≡_ {A = ℕ} 0 1 = cc in omega arith)
 refused-there st a InBatch e q = absurd (let z : _≡_ {A = ℕ} 0 1 = cc in omega arith)

@@ -2,24 +2,15 @@
 use Prim.Native.Nat.{ℕ}
 use mathlib.Core.Path.{_≡_}
 use mathlib.Core.List.{List, _++_}
-use mathlib.Core.Bool.{cond, _&&_}
 use lib.ListN.{length, drop}
-use lib.Dec.{leb}
-use Rattle.refusal.specs.declared.Cause.{Cause}
-use Rattle.refusal.specs.declared.Cause.the-variants.{EditionUnknown, OutputTooShort}
 use Rattle.card_run.specs.declared.answer.CardAnswer.{CardAnswer}
 use Rattle.card_run.specs.declared.answer.CardAnswer.the-variants.{GoingOn, Accepted, Refused}
-use Rattle.card_file.specs.CardFile.{checkOf}
+use Rattle.card_file.specs.Room.{answerWithRoom}
 use Rattle.card_mask.specs.Masked.{maskedFile}
 
-abbrev pub nowhere : Cause → CardAnswer
-nowhere cause = Refused (record { cause = cause; «record» = 0; column = 0 })
-
-unfoldable pub maskAnswer : ℕ → List ℕ → ℕ → CardAnswer
-maskAnswer edition file room =
-    cond (leb 1 edition && leb edition 2)
-    (cond (leb (length file) room) (checkOf edition file) (nowhere OutputTooShort))
-    (nowhere EditionUnknown)
+-- the copy needs as much room as the file is long
+abbrev pub maskAnswer : ℕ → List ℕ → ℕ → CardAnswer
+maskAnswer edition file room = answerWithRoom edition file (length file) room
 
 -- of an accepted file "the masked copy"; "output past the file's length is unchanged"; refused, all of it is
 unfoldable pub maskedInto : CardAnswer → List ℕ → List ℕ → List ℕ

@@ -4,12 +4,10 @@ ghost use mathlib.Core.List.{_++_};
 ghost use Prim.Native.Nat.{_≤_};
 ghost use lib.ListN.{length, drop};
 ghost use Rattle.card_mask.specs.Masked.{maskedPiece, maskedFile, MasksLines};
-ghost use Rattle.card_mask.specs.Mask.{maskAnswer, Masks};
+ghost use Rattle.card_mask.specs.Mask.{Masks};
 use card_record::card_part::CardPart;
 use card_run::answer::CardAnswer;
 use lines::Found;
-use refusal::Cause;
-use refusal::Refusal;
 
 // Masks the card's part of one piece, and nothing else.
 fn mask_piece(piece: &mut [u8])
@@ -39,34 +37,6 @@ pub fn mask_lines(bytes: &mut [u8]) -> usize
     at
 }
 
-// Whether an output has room for a file, and the file's answer: 1, then 2, then the file's own.
-fn answer_of(edition: u64, file: &[u8], room: usize) -> CardAnswer
-    ensures { λ r. ⌜ r ≡ maskAnswer edition (now (file .entry)) room ⌝ }
-{
-    if edition < 1 {
-        return CardAnswer::Refused(Refusal {
-            cause: Cause::EditionUnknown,
-            record: 0,
-            column: 0,
-        });
-    }
-    if 2 < edition {
-        return CardAnswer::Refused(Refusal {
-            cause: Cause::EditionUnknown,
-            record: 0,
-            column: 0,
-        });
-    }
-    if room < file.len() {
-        return CardAnswer::Refused(Refusal {
-            cause: Cause::OutputTooShort,
-            record: 0,
-            column: 0,
-        });
-    }
-    card_file::check(edition, file)
-}
-
 // Copies a file into the front of an output that has room for it, and masks the copy.
 fn write_masked(file: &[u8], out: &mut [u8])
     requires { ⌜ length (now file) ≤ length (now out) ⌝ }
@@ -81,7 +51,7 @@ fn write_masked(file: &[u8], out: &mut [u8])
 pub fn mask(edition: u64, file: &[u8], out: &mut [u8]) -> CardAnswer
     ensures { λ r. ⌜ Masks edition (now (file .entry)) (now (out .entry)) r (now (out .exit)) ⌝ }
 {
-    let answer = answer_of(edition, file, out.len());
+    let answer = card_file::room::check_with_room(edition, file, file.len(), out.len());
     match answer {
         CardAnswer::GoingOn => answer,
         CardAnswer::Refused(_) => answer,

@@ -14,7 +14,8 @@ use Rattle.refusal.proofs.Rules.{in-a-row}
 use Rattle.text.specs.declared.alphabet.Alphabet.{Alphabet}
 use Rattle.text.specs.declared.alphabet.Alphabet.the-variants.{Digits as digits, CardText as cardText}
 use Rattle.text.specs.Alphabet.{allowed, holdsOnly}
-use Rattle.text.specs.Number.{valueOf, valueIfDigits}
+use Rattle.text.specs.Number.{valueOf}
+use Rattle.text.specs.Weighed.{valueIfDigits}
 use Rattle.text.specs.Literal.{sameBytes}
 use Rattle.text.specs.Part.{positions}
 use Rattle.text.proofs.Alphabets.{both, both-left, both-right}
@@ -28,14 +29,14 @@ use Rattle.card_content.specs.declared.content.ClosedSet.the-variants.{LaunchTy
 use Rattle.card_content.specs.declared.content.Content.the-variants.{Digits, Text, Card, OneOf}
 use Rattle.card_content.specs.declared.field.Field.{Field}
 use Rattle.card_content.specs.Content.{inSet, contentRules}
-use Rattle.card_content.specs.Field.{field, partOf, fieldRules, tableRules, plainNumber, numberIn, recordRules}
+use Rattle.card_content.specs.Field.{field, partOf, fieldRules, tableRules, numberIn, recordRules}
 use Rattle.card_sale.specs.Cv.{cvTable, cvOf}
 use Rattle.card_record.specs.declared.kind.Kind.the-variants.{Cv as kindCv}
 use Rattle.card_record.specs.declared.kind.KindFound.the-variants.{Known}
 use Rattle.card_record.specs.declared.reading.Reading.the-variants.{Cv as cv}
 use Rattle.card_quick.specs.Quick.{noneAbove, least, greatest, inPicture, valueIn, setsRight, daysRight, surelyRight, quickCv}
 use Rattle.card_record.specs.Kind.{kindNamed, kindOf}
-use Rattle.card_record.specs.Reading.{numbersOf, judgedAs, readFound, readingOf}
+use Rattle.card_record.specs.Reading.{rightReading, judgedAs, readFound, readingOf}
 use Rattle.card_quick.proofs.Pictures.{slice-passes, at-least, at-most, between, neither-above}
 
 -- every field of a table is right
@@ -120,7 +121,6 @@ module _ (r : List ℕ) (wide : length r ≡ 199) (fits : inPicture r ≡ true) 
       (digits-held first last k)
 
   same-number : (f : Field) → leb (f .1 - (f .0 - 1)) 17 ≡ true → kept-between 48 57 (f .0) (f .1) ≡ true → valueIn f r ≡ numberIn f r
-  unfolding plainNumber
   same-number f short k =
       let few = leb-true (f .1 - (f .0 - 1)) 17 short in
       same-value (f .0) (f .1) short k ∙
@@ -224,7 +224,7 @@ module _ (r : List ℕ) (wide : length r ≡ 199) (fits : inPicture r ≡ true) 
 
 -- a sale that passes is read as its numbers
 pub quick-reads : (e : ℕ) (r : List ℕ) → length r ≡ 199 → surelyRight e r ≡ true → cv (quickCv r) ≡ readingOf e r
-unfolding surelyRight recordRules firstBroken numbersOf judgedAs readFound
+unfolding surelyRight recordRules firstBroken rightReading judgedAs readFound
 quick-reads e r wide sure =
     let fits = both-left (inPicture r) (setsRight e r && daysRight r) sure in
     let rest = both-right (inPicture r) (setsRight e r && daysRight r) sure in

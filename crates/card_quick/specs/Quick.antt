@@ -1,11 +1,11 @@
--- The quick way through a sale: what is asked of a record of 199 bytes, and the numbers that it is then read as.
--- No promise rests on it: a law says that a sale that passes reads as the slow way reads it.
+-- Of the quick way, and no rule of document 01: what is asked of a record of 199 bytes, and the numbers that it is then read as.
+-- No promise rests on it: a law (`proofs/SurelyRight.quick-reads`) says that a sale that passes reads as the slow way reads it.
 use Prim.Native.Nat.{ℕ}
 use mathlib.Core.List.{List, [], _∷_}
 use mathlib.Core.Bool.{Bool, true, _&&_}
 use lib.Dec.{leb}
 use Rattle.text.specs.Literal.{ascii}
-use Rattle.text.specs.Number.{valueIfDigits}
+use Rattle.text.specs.Weighed.{valueIfDigits}
 use Rattle.calendar.specs.Day.{isDay}
 use Rattle.calendar.specs.Time.{isTime}
 use Rattle.pan.specs.CardField.{wellFormed}

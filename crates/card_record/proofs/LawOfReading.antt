@@ -1,89 +1,69 @@
 -- THE LAW OF READING: what a record is read as says of its card only whether it is well formed.
--- The fields but the card's keep clear of it, which is computed over the table. A record with no card has nothing to hide, and needs no law.
+-- It goes by the row of the record's kind: the fields but the card's keep clear of the card. A record with no card has nothing to hide, and needs no law.
 use Prim.Native.Nat.{ℕ, _+_}
-use mathlib.Core.Path.{_≡_, refl, sym, _∙_, ap, ap₂, subst}
+use mathlib.Core.Path.{_≡_, sym, _∙_, ap, ap₂}
 use mathlib.Core.List.{List, _∷_}
 use native.Mathlib.Omega.{arith}
-use lib.ListN.{length, take, drop, length-drop}
+use lib.ListN.{length, length-drop}
 use lib.Dec.{eqb}
+use borrow.Author.Tests.{leb-true}
 use Rattle.refusal.specs.declared.Cause.the-variants.{WrongWidth}
 use Rattle.refusal.specs.Rules.{ruleAt, firstBroken}
-use Rattle.pan.specs.CardField.{wellFormed}
 use Rattle.pan.specs.Twins.{Twins}
 use Rattle.pan.proofs.Twins.{twins-formed}
-use Rattle.card_content.specs.declared.content.ClosedSet.the-variants.{LaunchType}
-use Rattle.card_content.specs.declared.content.Content.the-variants.{Digits, Text, Card, OneOf}
-use Rattle.card_content.specs.Content.{contentRules}
+use Rattle.card_content.specs.declared.content.Content.the-variants.{Text}
 use Rattle.card_content.specs.EqualOutside.{EqualOutside}
-use Rattle.card_content.specs.Field.{field, fieldRules, recordRules}
-use Rattle.card_content.proofs.FieldParts.{same-part, same-number, same-around}
-use Rattle.card_sale.specs.Cv.{cvTable, cvOf}
+use Rattle.card_content.specs.Field.{field, tableRules, recordRules}
+use Rattle.card_content.proofs.FieldParts.{same-part, same-around}
 use Rattle.card_record.specs.declared.card_part.CardPart.the-variants.{From}
-use Rattle.card_record.specs.declared.kind.Kind.the-variants.{Cv as kindCv}
-use Rattle.card_record.specs.declared.reading.Reading.the-variants.{Cv as cv}
+use Rattle.card_record.specs.declared.kind.Kind.{Kind}
 use Rattle.card_record.specs.CardPart.{cardPart, cardFrom}
 use Rattle.card_record.specs.Kind.{kindNamed, kindOf}
-use Rattle.card_record.specs.Reading.{numbersOf, judgedAs, readAs, readFound, readingOf}
-use Rattle.card_record.proofs.CardParts.{has-card, card-if, card-kind}
+use Rattle.card_record.specs.Reading.{widthOf, tableOf, kindRules, judgedAs, readAs, readFound, readingOf}
+use Rattle.card_record.proofs.CardRow.{CardRow, AlikeCards}
+use Rattle.card_record.proofs.CardParts.{has-card, card-if}
 
-module _ (r s : List ℕ) (same : EqualOutside 87 106 r s) (wide : length r ≡ 199) where
-  same-length : length r ≡ length s
-  same-length = omega (arith, ap length (same .behind), length-drop 106 r, length-drop 106 s)
-
+-- a record of a kind with a card, and one that is equal to it outside the card
+module _ (kind : Kind) (from : ℕ) (row : CardRow kind from) (r s : List ℕ) (same : EqualOutside from (from + 19) r s) where
   same-kind : kindOf r ≡ kindOf s
-  same-kind = ap kindNamed (same-part 87 106 r s same (field 1 2 Text) refl)
+  same-kind = ap kindNamed (same-part from (from + 19) r s same (field 1 2 Text) (row .kind-clear))
 
-  same-numbers : cvOf r ≡ cvOf s
-  same-numbers =
-      let number = same-number 87 106 r s same in
-      rw (
-        number (field 44 44 (OneOf LaunchType)) refl,
-        number (field 55 65 Digits) refl,
-        number (field 66 76 Digits) refl,
-        number (field 77 87 Digits) refl,
-        number (field 107 108 Digits) refl,
-        number (field 109 110 Digits) refl,
-        number (field 111 122 Digits) refl,
-        number (field 123 133 Digits) refl,
-        number (field 134 144 Digits) refl,
-        number (field 145 155 Digits) refl,
-        number (field 194 199 Digits) refl,
-      )
+  module _ (wide : length r ≡ widthOf kind) where
+    same-length : length r ≡ length s
+    same-length =
+        omega (
+          arith,
+          leb-true (from + 20) (widthOf kind) (row .inside),
+          ap length (same .behind),
+          length-drop (from + 19) r,
+          length-drop (from + 19) s,
+        )
 
-  module _ (e : ℕ) (formed : wellFormed (cardFrom 87 r) ≡ wellFormed (cardFrom 87 s)) where
-    same-card : fieldRules e r (field 88 106 Card) ≡ fieldRules e s (field 88 106 Card)
-    unfolding contentRules
-    same-card = rw formed
+    module _ (e : ℕ) (alike : AlikeCards (cardFrom from r) (cardFrom from s)) where
+      same-table : tableRules e r (tableOf kind) ≡ tableRules e s (tableOf kind)
+      same-table =
+          ap (tableRules e r) (row .table) ∙
+          same-around from (from + 19) r s same e (row .before) (row .card) (row .behind) (row .before-clear) (row .behind-clear)
+          (row .same-card e r s alike) ∙
+          sym (ap (tableRules e s) (row .table))
 
-    same-rules : recordRules e r 199 cvTable ≡ recordRules e s 199 cvTable
-    unfolding recordRules
-    same-rules =
-        ap₂ _∷_
-        (ap (λ (n : ℕ). ruleAt WrongWidth 0 (eqb n 199)) same-length)
-        (same-around 87 106 r s same e (take 11 cvTable) (field 88 106 Card) (drop 12 cvTable) refl refl same-card)
+      same-rules : kindRules kind e r ≡ kindRules kind e s
+      unfolding recordRules
+      same-rules = ap₂ _∷_ (ap (λ (n : ℕ). ruleAt WrongWidth 0 (eqb n (widthOf kind))) same-length) same-table
 
-    same-reading : readAs kindCv e r ≡ readAs kindCv e s
-    unfolding numbersOf
-    same-reading = ap₂ (judgedAs kindCv) (ap firstBroken same-rules) (ap cv same-numbers)
+      same-reading : readAs kind e r ≡ readAs kind e s
+      same-reading = ap₂ (judgedAs kind) (ap firstBroken same-rules) (row .same-numbers r s same)
 
--- the place is the only one that a card has
-at-its-place : (P : ℕ → Type 0) (from : ℕ) (r : List ℕ) → cardPart r ≡ From from → P 87 → P from
-at-its-place P from r has p = subst P (sym (has-card from r has .begins)) p
-
--- two records that are equal outside the card of one of them, and whose cards are both well formed or both not, read the same
+-- two records that are equal outside the card of one of them, and whose cards are alike, read the same
 pub law-of-reading : (e from : ℕ) (r s : List ℕ) → cardPart r ≡ From from → EqualOutside from (from + 19) r s →
-    wellFormed (cardFrom from r) ≡ wellFormed (cardFrom from s) → readingOf e r ≡ readingOf e s
+    AlikeCards (cardFrom from r) (cardFrom from s) → readingOf e r ≡ readingOf e s
 unfolding readFound
-law-of-reading e from r s has =
-    at-its-place
-    (λ k. EqualOutside k (k + 19) r s → wellFormed (cardFrom k r) ≡ wellFormed (cardFrom k s) → readingOf e r ≡ readingOf e s)
-    from r has
-    (λ same formed.
-    let wide = has-card from r has .wide in
-    let kind = card-kind from r has in
-    ap (λ k. readFound k e r) kind ∙
-    same-reading r s same wide e formed ∙
-    sym (ap (λ k. readFound k e s) (sym (same-kind r s same wide) ∙ kind)))
+law-of-reading e from r s has same alike =
+    let is = has-card from r has in
+    let known = is .known in
+    ap (λ found. readFound found e r) known ∙
+    same-reading (is .kind) from (is .row) r s same (is .wide) e alike ∙
+    sym (ap (λ found. readFound found e s) (sym (same-kind (is .kind) from (is .row) r s same) ∙ known))
 
 -- so two records that are told apart by hidden digits only read the same
 pub twins-read : (e from : ℕ) (r s : List ℕ) → cardPart r ≡ From from → EqualOutside from (from + 19) r s →
@@ -92,8 +72,9 @@ twins-read e from r s has same twins = law-of-reading e from r s has same (twins
 
 -- and the other has its card at the same place
 pub same-place : (from : ℕ) (r s : List ℕ) → cardPart r ≡ From from → EqualOutside from (from + 19) r s → cardPart s ≡ From from
-same-place from r s has =
-    at-its-place (λ k. EqualOutside k (k + 19) r s → cardPart s ≡ From k) from r has
-    (λ same.
+same-place from r s has same =
     let is = has-card from r has in
-    card-if s (sym (same-part 87 106 r s same (field 1 2 Text) refl) ∙ is .named) (sym (same-length r s same (is .wide)) ∙ is .wide))
+    card-if (is .kind) s
+    (sym (same-kind (is .kind) from (is .row) r s same) ∙ is .known)
+    (sym (same-length (is .kind) from (is .row) r s same (is .wide)) ∙ is .wide) ∙
+    is .begins

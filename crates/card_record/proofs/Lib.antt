@@ -1,3 +1,5 @@
+pub mod CardRow
+mod CardRows
 pub mod CardParts
 pub mod LawOfReading
 pub mod Readings

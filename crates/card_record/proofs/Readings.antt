@@ -33,7 +33,7 @@ use Rattle.card_record.specs.declared.reading.Reading.the-variants.{
   A9 as a9,
 }
 use Rattle.card_record.specs.Kind.{kindOf}
-use Rattle.card_record.specs.Reading.{widthOf, tableOf, kindRules, numbersOf, judgedAs, readFound, readingOf}
+use Rattle.card_record.specs.Reading.{widthOf, tableOf, kindRules, rightReading, judgedAs, readFound, readingOf}
 
 -- a record of a kind, whose width and fields are right
 pub record Right (kind : Kind) (e : ℕ) (r : List ℕ) : Type 0 where
@@ -62,8 +62,8 @@ unfolding allHold recordRules
 width-right kind e r h = eqb-true (length r) (widthOf kind) (both-left (eqb (length r) (widthOf kind)) (allHold (tableRules e r (tableOf kind))) h)
 
 -- the numbers of a kind say that all is right
-numbers-say : (e : ℕ) (r : List ℕ) (kind : Kind) → Right kind e r → Says e r (numbersOf kind r)
-unfolding numbersOf
+numbers-say : (e : ℕ) (r : List ℕ) (kind : Kind) → Right kind e r → Says e r (rightReading kind r)
+unfolding rightReading
 numbers-say e r A0 right = (right, refl)
 numbers-say e r L0 right = (right, refl)
 numbers-say e r Cv right = (right, refl)
@@ -72,7 +72,7 @@ numbers-say e r A9 right = (right, refl)
 
 -- by the first fault, and by the kind
 fault-says : (e : ℕ) (r : List ℕ) (kind : Kind) (fault : Fault) → kindOf r ≡ Known kind → firstBroken (kindRules kind e r) ≡ fault →
-    Says e r (judgedAs kind fault (numbersOf kind r))
+    Says e r (judgedAs kind fault (rightReading kind r))
 unfolding judgedAs
 fault-says e r kind Nothing k f =
     let h = all-hold (kindRules kind e r) f in
@@ -90,17 +90,17 @@ says e r h = subst (Says e r) h (kind-says e r (kindOf r) refl)
 
 -- a record of a known kind reads as its rules and its numbers say
 known-reads : (e : ℕ) (r : List ℕ) (kind : Kind) {fault : Fault} → kindOf r ≡ Known kind → firstBroken (kindRules kind e r) ≡ fault →
-    readingOf e r ≡ judgedAs kind fault (numbersOf kind r)
+    readingOf e r ≡ judgedAs kind fault (rightReading kind r)
 unfolding readFound
-known-reads e r kind k f = ap (λ found. readFound found e r) k ∙ ap (λ fault. judgedAs kind fault (numbersOf kind r)) f
+known-reads e r kind k f = ap (λ found. readFound found e r) k ∙ ap (λ fault. judgedAs kind fault (rightReading kind r)) f
 
-right-reads : (e : ℕ) (r : List ℕ) (kind : Kind) → Right kind e r → readingOf e r ≡ numbersOf kind r
+right-reads : (e : ℕ) (r : List ℕ) (kind : Kind) → Right kind e r → readingOf e r ≡ rightReading kind r
 unfolding judgedAs
 right-reads e r kind right = known-reads e r kind (right .known) (none-broken (kindRules kind e r) (right .rules-hold))
 
 -- and what a reading should say is said by that reading alone
 pub said : (e : ℕ) (r : List ℕ) (reading : Reading) → Says e r reading → readingOf e r ≡ reading
-unfolding readFound judgedAs numbersOf
+unfolding readFound judgedAs rightReading
 said e r unknown k = ap (λ found. readFound found e r) k
 said e r (faulty kind cause column) wrong = known-reads e r kind (wrong .known) (gives-first (wrong .first-broken))
 said e r (a0 n) (right, h) = right-reads e r A0 right ∙ ap a0 (sym h)

@@ -1,3 +1,3 @@
 pub mod Kind
-pub mod CardPart
 pub mod Reading
+pub mod CardPart

@@ -11,6 +11,8 @@ use Rattle.card_frame.specs.A0.{a0Table, a0Of}
 use Rattle.card_frame.specs.L0.{l0Table, l0Of}
 use Rattle.card_frame.specs.L9.{l9Table, l9Of}
 use Rattle.card_frame.specs.A9.{a9Table, a9Of}
+use Rattle.card_record.specs.declared.card_part.CardPart.{CardPart}
+use Rattle.card_record.specs.declared.card_part.CardPart.the-variants.{From, Nowhere}
 use Rattle.card_record.specs.declared.kind.Kind.{Kind}
 use Rattle.card_record.specs.declared.kind.Kind.the-variants.{A0, L0, Cv, L9, A9}
 use Rattle.card_record.specs.declared.kind.KindFound.{KindFound}
@@ -42,17 +44,25 @@ tableOf Cv = cvTable
 tableOf L9 = l9Table
 tableOf A9 = a9Table
 
+-- the place, from 0, at which the 19 bytes of a kind's card begin: "card 88-106" of a CV
+abbrev pub cardOf : Kind → CardPart
+cardOf A0 = Nowhere
+cardOf L0 = Nowhere
+cardOf Cv = From 87
+cardOf L9 = Nowhere
+cardOf A9 = Nowhere
+
 -- the rules of a kind that look at one record's width and fields
 abbrev pub kindRules : Kind → ℕ → List ℕ → List Rule
 kindRules kind edition r = recordRules edition r (widthOf kind) (tableOf kind)
 
--- the numbers of a record of a kind
-unfoldable pub numbersOf : Kind → List ℕ → Reading
-numbersOf A0 r = a0 (a0Of r)
-numbersOf L0 r = l0 (l0Of r)
-numbersOf Cv r = cv (cvOf r)
-numbersOf L9 r = l9 (l9Of r)
-numbersOf A9 r = a9 (a9Of r)
+-- the reading of a record of a kind whose width and fields are right: its numbers
+unfoldable pub rightReading : Kind → List ℕ → Reading
+rightReading A0 r = a0 (a0Of r)
+rightReading L0 r = l0 (l0Of r)
+rightReading Cv r = cv (cvOf r)
+rightReading L9 r = l9 (l9Of r)
+rightReading A9 r = a9 (a9Of r)
 
 -- the first fault, or where there is none the numbers
 unfoldable pub judgedAs : Kind → Fault → Reading → Reading
@@ -60,7 +70,7 @@ judgedAs kind Nothing numbers = numbers
 judgedAs kind (At cause column) numbers = faulty kind cause column
 
 abbrev pub readAs : Kind → ℕ → List ℕ → Reading
-readAs kind edition r = judgedAs kind (firstBroken (kindRules kind edition r)) (numbersOf kind r)
+readAs kind edition r = judgedAs kind (firstBroken (kindRules kind edition r)) (rightReading kind r)
 
 unfoldable pub readFound : KindFound → ℕ → List ℕ → Reading
 readFound (Known kind) edition r = readAs kind edition r

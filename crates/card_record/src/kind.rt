@@ -1,6 +1,12 @@
 // The kinds of record that are read.
 ghost use mathlib.Core.Path.{_≡_};
 ghost use Rattle.card_record.specs.Kind.{kindOf};
+ghost use Rattle.card_record.specs.Reading.{widthOf};
+use card_frame::a0::A0;
+use card_frame::a9::A9;
+use card_frame::l0::L0;
+use card_frame::l9::L9;
+use card_sale::cv::Cv;
 
 pub enum Kind {
     A0,
@@ -8,6 +14,21 @@ pub enum Kind {
     Cv,
     L9,
     A9,
+}
+
+impl Kind {
+    // How many bytes a record of this kind has.
+    pub fn width(self) -> usize
+        ensures { λ r. ⌜ r ≡ widthOf self ⌝ }
+    {
+        match self {
+            Kind::A0 => A0::WIDTH,
+            Kind::L0 => L0::WIDTH,
+            Kind::Cv => Cv::WIDTH,
+            Kind::L9 => L9::WIDTH,
+            Kind::A9 => A9::WIDTH,
+        }
+    }
 }
 
 // A record's kind, or none that is read.

@@ -13,8 +13,7 @@ answerAt Start st = GoingOn
 answerAt BetweenBatches st = GoingOn
 answerAt InBatch st = GoingOn
 answerAt Ended st = GoingOn
-answerAt Closed st =
-    Accepted (record { date = st .date; movement = st .movement; records = st .records; batches = st .batches; totals = st .totals })
+answerAt Closed st = Accepted (st .numbers)
 answerAt (Refused r) st = refused r
 
 abbrev pub answerOf : Running → CardAnswer

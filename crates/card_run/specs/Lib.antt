@@ -1,3 +1,4 @@
 pub mod Stage
+pub mod Batch
 pub mod Running
 pub mod Answer

@@ -1,4 +1,5 @@
-// The running state of a card file: it takes what reading answered of one record after the other, and knows places, numbers and totals.
+// The running state of a card file: how far it has come, its numbers so far, and its answer.
 pub mod answer;
+pub mod batch;
 pub mod running;
 pub mod stage;

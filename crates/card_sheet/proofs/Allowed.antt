@@ -1,7 +1,6 @@
 -- The sheet of an accepted file has numbers that are allowed: the file keeps 01's rules, and its numbers are the plain ones.
 use Prim.Native.Nat.{ℕ, _≤_}
 use mathlib.Core.Path.{_≡_, _∙_, ap}
-use mathlib.Core.Logic.{_⊎_, inl, inr}
 use mathlib.Core.List.{List}
 use mathlib.Core.Bool.{true}
 use native.Mathlib.Omega.{arith}
@@ -9,6 +8,7 @@ use borrow.Author.Tests.{le-leb, lt-ltb, eq-eqb}
 use Rattle.text.proofs.Numbers.{value-below}
 use Rattle.text.specs.Part.{positions}
 use Rattle.calendar.specs.Day.{isDay}
+use Rattle.edition.proofs.Editions.{known-between}
 use Rattle.card_run.specs.declared.answer.Accepted.{Accepted as Numbers}
 use Rattle.card_run.specs.declared.answer.CardAnswer.the-variants.{Accepted}
 use Rattle.card_file.specs.CardFile.{checkOf}
@@ -22,20 +22,6 @@ use Rattle.card_sheet.specs.SheetOf.{sheetFrom}
 use Rattle.card_sheet.proofs.Counts.{batches-below, sales-below}
 
 module _ {edition : ℕ} {bytes : List ℕ} (k : Kept edition bytes) where
-  known-low : 1 ≤ edition
-  known-low = by (k .known)
-    where
-      by : (edition ≡ 1) ⊎ (edition ≡ 2) → 1 ≤ edition
-      by (inl e) = omega (arith, e)
-      by (inr e) = omega (arith, e)
-
-  known-high : edition ≤ 2
-  known-high = by (k .known)
-    where
-      by : (edition ≡ 1) ⊎ (edition ≡ 2) → edition ≤ 2
-      by (inl e) = omega (arith, e)
-      by (inr e) = omega (arith, e)
-
   date-right : isDay (numberAt 9 16 (k .file .a0)) ≡ true
   date-right = k .keeps .a0 .fields .1 .0 .1
 
@@ -50,9 +36,10 @@ module _ {edition : ℕ} {bytes : List ℕ} (k : Kept edition bytes) where
   allowed : (a : Numbers) → Plain (k .file) a → sheetAllowed (sheetFrom edition a) ≡ true
   unfolding sheetAllowed totalsAllowed
   allowed a p =
+      let between = known-between edition (k .edition-known) in
       rw (
-        le-leb _ _ known-low,
-        le-leb _ _ known-high,
+        le-leb _ _ (between .0),
+        le-leb _ _ (between .1),
         ap isDay (p .date) ∙ date-right,
         le-leb (a .movement) 999999 (omega (arith, p .movement, movement-below)),
         le-leb (a .batches) 999999 (omega (arith, p .batches, p .records, p .records-below, batches-below (k .file))),

@@ -1,11 +1,9 @@
 // The day sheet of a card file.
 ghost use mathlib.Core.Path.{_≡_};
-ghost use Rattle.card_sheet.specs.SheetOf.{sheetFrom, sheetAnswer, SheetOf};
+ghost use Rattle.card_sheet.specs.SheetOf.{sheetFrom, SheetOf};
 use card_run::answer::Accepted;
 use card_run::answer::CardAnswer;
 use day_sheet::sheet::Sheet;
-use refusal::Cause;
-use refusal::Refusal;
 
 // The bytes of a sheet.
 const WIDTH: usize = 52;
@@ -24,39 +22,11 @@ pub fn sheet_from(edition: u64, numbers: Accepted) -> Sheet
     }
 }
 
-// The file's answer under an edition, for an output of a length: 1, then 2, then the file's own.
-fn answer_of(edition: u64, file: &[u8], room: usize) -> CardAnswer
-    ensures { λ r. ⌜ r ≡ sheetAnswer edition (now (file .entry)) room ⌝ }
-{
-    if edition < 1 {
-        return CardAnswer::Refused(Refusal {
-            cause: Cause::EditionUnknown,
-            record: 0,
-            column: 0,
-        });
-    }
-    if 2 < edition {
-        return CardAnswer::Refused(Refusal {
-            cause: Cause::EditionUnknown,
-            record: 0,
-            column: 0,
-        });
-    }
-    if room < WIDTH {
-        return CardAnswer::Refused(Refusal {
-            cause: Cause::OutputTooShort,
-            record: 0,
-            column: 0,
-        });
-    }
-    card_file::check(edition, file)
-}
-
 // Writes the day sheet of an accepted file into the first 52 bytes of the output; refused, it changes nothing.
 pub fn sheet_of(edition: u64, file: &[u8], out: &mut [u8]) -> CardAnswer
     ensures { λ r. ⌜ SheetOf edition (now (file .entry)) (now (out .entry)) r (now (out .exit)) ⌝ }
 {
-    let answer = answer_of(edition, file, out.len());
+    let answer = card_file::room::check_with_room(edition, file, WIDTH, out.len());
     match answer {
         CardAnswer::GoingOn => answer,
         CardAnswer::Refused(_) => answer,

@@ -1,14 +1,14 @@
 -- A file in chunks is the file read whole. A stream is a run over pieces (`chunks`), and neither taking a line nor the end looks further into what
--- is held than what is kept of it.
+-- is held than what is held of it.
 use Prim.Native.Nat.{ℕ, _<_}
 use mathlib.Core.Path.{_≡_, refl, sym, _∙_, ap}
 use mathlib.Core.List.{List, [], _∷_, foldl}
 use native.Mathlib.Omega.{arith}
 use lib.ListN.{length}
 use Rattle.lines.specs.Lines.{cut}
-use Rattle.chunks.specs.Unfinished.{keptWith, keptOf, oneMore}
+use Rattle.chunks.specs.Unfinished.{clippedWith, clipped, oneMore}
 use Rattle.chunks.specs.Chunks.{Run, startOf, ranOver, joinedChunks}
-use Rattle.chunks.proofs.Kept.{kept-some}
+use Rattle.chunks.proofs.Clipped.{clipped-some}
 use Rattle.chunks.proofs.Held.{held-back}
 use Rattle.chunks.proofs.Streams.{LooksNoFurther, in-chunks}
 use Rattle.card_run.specs.declared.running.Running.{Running}
@@ -25,9 +25,9 @@ some-left st [] h = absurd (omega arith)
 some-left st (b ∷ s) h = refl
 
 end-no-further : LooksNoFurther endOf
-unfolding keptWith endOf
+unfolding clippedWith endOf
 end-no-further st [] = refl
-end-no-further st (b ∷ s) = some-left st (keptWith (oneMore [] b) s) (kept-some b [] s)
+end-no-further st (b ∷ s) = some-left st (clippedWith (oneMore [] b) s) (clipped-some b [] s)
 
 -- taking chunks is running over them
 as-runs : (run : Run Running) (cs : List (List ℕ)) → foldl takenOf (streamOf run) cs ≡ streamOf (foldl (ranOver lineOf) run cs)

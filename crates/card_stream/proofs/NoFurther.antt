@@ -1,4 +1,4 @@
--- Taking a line looks no further into it than what is kept: its last byte, and 241 bytes in front, which are more than any kind is wide.
+-- Taking a line looks no further into it than what is held: its last byte, and 241 bytes in front, which are more than any kind is wide.
 use Prim.Native.Nat.{ℕ, _<_}
 use mathlib.Core.Path.{_≡_, refl, sym, _∙_, ap, ap₂}
 use mathlib.Core.List.{List}
@@ -12,8 +12,8 @@ use Rattle.refusal.specs.declared.Cause.the-variants.{WrongWidth}
 use Rattle.refusal.specs.declared.Fault.the-variants.{At}
 use Rattle.refusal.specs.Rules.{firstBroken}
 use Rattle.lines.specs.Lines.{endsInCr, withoutLast}
-use Rattle.chunks.specs.Unfinished.{keptOf}
-use Rattle.chunks.proofs.Kept.{kept-ends, kept-record}
+use Rattle.chunks.specs.Unfinished.{clipped}
+use Rattle.chunks.proofs.Clipped.{clipped-ends, clipped-record}
 use Rattle.chunks.proofs.Streams.{LooksNoFurther}
 use Rattle.card_content.specs.Field.{recordRules}
 use Rattle.card_record.specs.declared.kind.Kind.{Kind}
@@ -23,7 +23,8 @@ use Rattle.card_record.specs.declared.kind.KindFound.the-variants.{Known, Unkno
 use Rattle.card_record.specs.Kind.{kindOf, kindNamed}
 use Rattle.card_record.specs.Reading.{widthOf, kindRules, readFound, readingOf, judgedAs}
 use Rattle.card_run.specs.declared.running.Running.{Running}
-use Rattle.card_run.specs.Running.{fedOf, tookOf}
+use Rattle.card_step.specs.Step.{tookOf}
+use Rattle.card_file.specs.Feeding.{fedOf}
 use Rattle.card_file.specs.CardFile.{lineOf, unendedOf}
 
 -- no kind is wider than 199
@@ -58,5 +59,5 @@ front-reading e r = one (leb (length r) 241) refl
 
 pub no-further : LooksNoFurther lineOf
 no-further st p =
-    ap₂ (λ (ends : Bool) (r : List ℕ). cond ends (fedOf st r) (unendedOf st)) (kept-ends p) (kept-record p) ∙
+    ap₂ (λ (ends : Bool) (r : List ℕ). cond ends (fedOf st r) (unendedOf st)) (clipped-ends p) (clipped-record p) ∙
     ap (λ reading. cond (endsInCr p) (tookOf st reading) (unendedOf st)) (front-reading (st .edition) (withoutLast p))

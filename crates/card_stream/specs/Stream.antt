@@ -1,4 +1,4 @@
--- A card file in chunks: a state, and what is kept of the record that has not ended.
+-- A card file in chunks: a state, and what is held of the record that has not ended.
 use Prim.Native.Nat.{ℕ}
 use mathlib.Core.List.{List, [], _∷_}
 use Rattle.refusal.specs.declared.Cause.the-variants.{BytesAfterTheEnd}

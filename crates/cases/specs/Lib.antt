@@ -1,5 +1,5 @@
+pub mod CardNumbers
 pub mod Cursor
 pub mod Cuts
 pub mod Hash
 pub mod Output
-pub mod Row

@@ -1,6 +1,6 @@
 // Answers as rows of numbers, by which two of them are compared.
 ghost use mathlib.Core.Path.{_≡_};
-ghost use Rattle.cases.specs.Row.{cardNumbers};
+ghost use Rattle.cases.specs.CardNumbers.{cardNumbers};
 ghost use Rattle.text.specs.Literal.{sameBytes};
 use card_run::answer::Accepted;
 use card_run::answer::CardAnswer;

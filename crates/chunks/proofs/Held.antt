@@ -10,8 +10,8 @@ use lib.Seq.{take-all, take-append-seam, set-at, set-split, drop-cons}
 use lib.Dec.{leb}
 use borrow.Author.Tests.{leb-true, leb-false}
 use Rattle.chunks.specs.declared.Unfinished.{Unfinished}
-use Rattle.chunks.specs.Unfinished.{oneMore, keptWith, keptOf, heldBy, holding}
-use Rattle.chunks.proofs.Kept.{one-longer}
+use Rattle.chunks.specs.Unfinished.{oneMore, clippedWith, clipped, heldBy, holding}
+use Rattle.chunks.proofs.Clipped.{one-longer}
 
 -- what it was made to hold
 pub held-back : (s : List ℕ) → heldBy (holding s) ≡ s
@@ -81,21 +81,21 @@ one-put u b e l =
 
 -- the next byte of a part: there are zeros behind what is then held, and with the bytes still to come it is as before
 pub put-next : (u : Unfinished) (place : ℕ) (part : List ℕ) (i : ℕ) → place ≡ min (u .length) 241 → i < length part → Clean u → length (u .bytes) ≡ 242 →
-    Clean (put u place (getD part i 0)) × (keptWith (heldBy (put u place (getD part i 0))) (drop (i + 1) part) ≡ keptWith (heldBy u) (drop i part))
-unfolding keptWith
+    Clean (put u place (getD part i 0)) × (clippedWith (heldBy (put u place (getD part i 0))) (drop (i + 1) part) ≡ clippedWith (heldBy u) (drop i part))
+unfolding clippedWith
 put-next u place part i p h e l =
     let m : length (heldBy u) ≤ 242 = omega (arith, length-take (u .length) (u .bytes)) in
     let w = clean (oneMore (heldBy u) (getD part i 0)) (ap (λ (n : ℕ). put u n (getD part i 0)) p ∙ one-put u (getD part i 0) e m) in
-    (w .1, ap (λ (k : List ℕ). keptWith k (drop (i + 1) part)) (w .0) ∙ rw (drop-cons part i 0 h, add-one))
+    (w .1, ap (λ (k : List ℕ). clippedWith k (drop (i + 1) part)) (w .0) ∙ rw (drop-cons part i 0 h, add-one))
 
 -- and with none to come it is what is held
-pub all-put : (u : Unfinished) (part : List ℕ) (i : ℕ) → length part ≤ i → heldBy u ≡ keptWith (heldBy u) (drop i part)
-unfolding keptWith
+pub all-put : (u : Unfinished) (part : List ℕ) (i : ℕ) → length part ≤ i → heldBy u ≡ clippedWith (heldBy u) (drop i part)
+unfolding clippedWith
 all-put u part i h = rw (drop-of-length-le part h)
 
--- behind nothing, the bytes from a place on are kept by themselves
-pub behind-none : (at : ℕ) (s : List ℕ) {u next : Unfinished} → u ≡ holding [] → next ≡ holding (keptOf (heldBy u ++ take (length s - at) (drop at s))) →
-    next ≡ holding (keptOf (drop at s))
+-- behind nothing, the bytes from a place on are held by themselves
+pub behind-none : (at : ℕ) (s : List ℕ) {u next : Unfinished} → u ≡ holding [] → next ≡ holding (clipped (heldBy u ++ take (length s - at) (drop at s))) →
+    next ≡ holding (clipped (drop at s))
 behind-none at s e f =
     let all = take-all (length s - at) (drop at s) (omega (arith, length-drop at s)) in
-    f ∙ ap₂ (λ (h t : List ℕ). holding (keptOf (h ++ t))) (ap heldBy e ∙ held-back []) all
+    f ∙ ap₂ (λ (h t : List ℕ). holding (clipped (h ++ t))) (ap heldBy e ∙ held-back []) all

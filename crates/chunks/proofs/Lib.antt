@@ -1,4 +1,4 @@
-pub mod Kept
+pub mod Clipped
 pub mod Held
 pub mod Streams
 pub mod Pieces

@@ -7,7 +7,7 @@ use lib.ListN.{take, drop, length, drop-of-length-le}
 use Rattle.lines.specs.declared.Found.the-variants.{At, Nowhere}
 use Rattle.lines.specs.Lines.{Lines, cut, nextLf}
 use Rattle.lines.proofs.Cuts.{cut-at, cut-nowhere}
-use Rattle.chunks.specs.Unfinished.{keptWith, keptOf}
+use Rattle.chunks.specs.Unfinished.{clippedWith, clipped}
 use Rattle.chunks.specs.Chunks.{Run, heldBefore, ranLines, ranOver}
 use Rattle.chunks.proofs.Streams.{LooksNoFurther}
 
@@ -20,16 +20,16 @@ module _ {S : Type 0} (step : S → List ℕ → S) where
 
   -- no LF: the bytes are left
   pub bytes-left : (st : S) (at : ℕ) (s : List ℕ) → nextLf at s ≡ Nowhere →
-      record { state = st; held = keptOf (drop at s) } ≡ ranLines step st (cut (drop at s))
+      record { state = st; held = clipped (drop at s) } ≡ ranLines step st (cut (drop at s))
   bytes-left st at s q = sym (ap (ranLines step st) (cut-nowhere at s q))
 
   -- no byte: nothing is left
   pub nothing-left : (st : S) (at : ℕ) (s : List ℕ) → length s ≤ at → record { state = st; held = [] } ≡ ranLines step st (cut (drop at s))
-  unfolding cut keptWith
+  unfolding cut clippedWith
   nothing-left st at s h = rw (drop-of-length-le s h)
 
-  -- the first LF of a chunk: the piece before it has what was held in front, of which no more is needed than is kept
-  pub first-taken : LooksNoFurther step → (run : Run S) (s : List ℕ) (e : ℕ) {next : S} → nextLf 0 s ≡ At e → next ≡ step (run .state) (keptOf (run .held ++ take e s)) →
+  -- the first LF of a chunk: the piece before it has what was held in front, of which no more is needed than is held
+  pub first-taken : LooksNoFurther step → (run : Run S) (s : List ℕ) (e : ℕ) {next : S} → nextLf 0 s ≡ At e → next ≡ step (run .state) (clipped (run .held ++ take e s)) →
       ranLines step next (cut (drop (e + 1) s)) ≡ ranOver step run s
   unfolding heldBefore
   first-taken no-further run s e q r =
@@ -39,6 +39,6 @@ module _ {S : Type 0} (step : S → List ℕ → S) where
       sym (ap (λ (ls : Lines). ranLines step (run .state) (heldBefore (run .held) (ls .pieces) (ls .rest))) (cut-at 0 s e q))
 
   -- no LF in a chunk: it is held behind what was held
-  pub none-ended : (run : Run S) (s : List ℕ) → nextLf 0 s ≡ Nowhere → record { state = run .state; held = keptOf (run .held ++ s) } ≡ ranOver step run s
+  pub none-ended : (run : Run S) (s : List ℕ) → nextLf 0 s ≡ Nowhere → record { state = run .state; held = clipped (run .held ++ s) } ≡ ranOver step run s
   unfolding heldBefore
   none-ended run s q = sym (ap (λ (ls : Lines). ranLines step (run .state) (heldBefore (run .held) (ls .pieces) (ls .rest))) (cut-nowhere 0 s q))

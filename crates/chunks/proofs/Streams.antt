@@ -1,5 +1,5 @@
--- The law of chunks, over any step that looks no further into a piece than what is kept of it: chunk by chunk ends as all at once.
--- The cut of a ++ b goes on from the rest of a, and a front that is kept changes no piece for such a step.
+-- The law of chunks, over any step that looks no further into a piece than what is held of it: chunk by chunk ends as all at once.
+-- The cut of a ++ b goes on from the rest of a, and a front that is held changes no piece for such a step.
 use Prim.Native.Nat.{ℕ}
 use mathlib.Core.Path.{_≡_, refl, sym, _∙_, ap}
 use mathlib.Core.List.{List, [], _∷_, _++_, foldl, foldl-append, append-nil, append-assoc}
@@ -7,9 +7,9 @@ use mathlib.Core.Bool.{Bool, true, false, cond}
 use lib.Dec.{eqb}
 use Rattle.lines.specs.Lines.{Lines, lf, cut, inFront, rejoined, noLf}
 use Rattle.lines.proofs.Cuts.{piecesThen, cut-is-cut, cut-rejoined}
-use Rattle.chunks.specs.Unfinished.{keptWith, keptOf}
+use Rattle.chunks.specs.Unfinished.{clippedWith, clipped}
 use Rattle.chunks.specs.Chunks.{Run, startOf, heldBefore, ranLines, ranOver, joinedChunks}
-use Rattle.chunks.proofs.Kept.{kept-again, kept-behind}
+use Rattle.chunks.proofs.Clipped.{clipped-again, clipped-behind}
 
 -- bytes without LF stand before the cut of what follows
 byte-before : (x : ℕ) (a : List ℕ) (ps : List (List ℕ)) (rest : List ℕ) →
@@ -49,38 +49,38 @@ cut-on a b =
 cut-behind : (a b : List ℕ) → cut (a ++ b) ≡ piecesThen (cut a .pieces) (heldBefore (cut a .rest) (cut b .pieces) (cut b .rest))
 cut-behind a b = cut-on a b ∙ ap (piecesThen (cut a .pieces)) (cut-before (cut a .rest) b (cut-is-cut a .rest-clear))
 
--- a step that looks no further into a piece than what is kept of it
+-- a step that looks no further into a piece than what is held of it
 abbrev pub LooksNoFurther : {S A : Type 0} → (S → List ℕ → A) → Type 0
-LooksNoFurther {S} step = (st : S) (p : List ℕ) → step st (keptOf p) ≡ step st p
+LooksNoFurther {S} step = (st : S) (p : List ℕ) → step st (clipped p) ≡ step st p
 
 module _ {S : Type 0} (step : S → List ℕ → S) (no-further : LooksNoFurther step) where
-  -- two fronts of which the same is kept make the same of what follows
-  kept-alike : (a b p : List ℕ) → keptOf a ≡ keptOf b → keptOf (a ++ p) ≡ keptOf (b ++ p)
-  kept-alike a b p e = sym (kept-behind a p) ∙ ap (λ h. keptOf (h ++ p)) e ∙ kept-behind b p
+  -- two fronts of which the same is held make the same of what follows
+  clipped-alike : (a b p : List ℕ) → clipped a ≡ clipped b → clipped (a ++ p) ≡ clipped (b ++ p)
+  clipped-alike a b p e = sym (clipped-behind a p) ∙ ap (λ h. clipped (h ++ p)) e ∙ clipped-behind b p
 
-  same-run : (st : S) (a b : List ℕ) (ps : List (List ℕ)) (rest : List ℕ) → keptOf a ≡ keptOf b →
+  same-run : (st : S) (a b : List ℕ) (ps : List (List ℕ)) (rest : List ℕ) → clipped a ≡ clipped b →
       ranLines step st (heldBefore a ps rest) ≡ ranLines step st (heldBefore b ps rest)
   unfolding heldBefore
-  same-run st a b [] rest e = ap (λ h. record { state = st; held = h }) (kept-alike a b rest e)
+  same-run st a b [] rest e = ap (λ h. record { state = st; held = h }) (clipped-alike a b rest e)
   same-run st a b (p ∷ ps) rest e =
-      ap (λ next. record { state = foldl step next ps; held = keptOf rest })
-      (sym (no-further st (a ++ p)) ∙ ap (step st) (kept-alike a b p e) ∙ no-further st (b ++ p))
+      ap (λ next. record { state = foldl step next ps; held = clipped rest })
+      (sym (no-further st (a ++ p)) ∙ ap (step st) (clipped-alike a b p e) ∙ no-further st (b ++ p))
 
-  -- what a chunk leaves is kept, and does to the next chunk as if it stood there whole
+  -- what a chunk leaves is held, and does to the next chunk as if it stood there whole
   left-then : (st : S) (held : List ℕ) (qs : List (List ℕ)) (r : List ℕ) (ps : List (List ℕ)) (rest : List ℕ) →
-      ranLines step (foldl step st (heldBefore held qs r .pieces)) (heldBefore (keptOf (heldBefore held qs r .rest)) ps rest) ≡
+      ranLines step (foldl step st (heldBefore held qs r .pieces)) (heldBefore (clipped (heldBefore held qs r .rest)) ps rest) ≡
       ranLines step st (heldBefore held (qs ++ heldBefore r ps rest .pieces) (heldBefore r ps rest .rest))
   unfolding heldBefore
   left-then st held [] r [] rest =
-      same-run st (keptOf (held ++ r)) (held ++ r) [] rest (kept-again (held ++ r)) ∙
+      same-run st (clipped (held ++ r)) (held ++ r) [] rest (clipped-again (held ++ r)) ∙
       ap (λ l. ranLines step st (record { pieces = []; rest = l })) (append-assoc held r rest)
   left-then st held [] r (p ∷ ps) rest =
-      same-run st (keptOf (held ++ r)) (held ++ r) (p ∷ ps) rest (kept-again (held ++ r)) ∙
+      same-run st (clipped (held ++ r)) (held ++ r) (p ∷ ps) rest (clipped-again (held ++ r)) ∙
       ap (λ l. ranLines step st (record { pieces = l ∷ ps; rest = rest })) (append-assoc held r p)
   left-then st held (q ∷ qs) r ps rest =
       let next = foldl step (step st (held ++ q)) qs in
-      same-run next (keptOf r) r ps rest (kept-again r) ∙
-      ap (λ to. record { state = to; held = keptOf (heldBefore r ps rest .rest) })
+      same-run next (clipped r) r ps rest (clipped-again r) ∙
+      ap (λ to. record { state = to; held = clipped (heldBefore r ps rest .rest) })
       (sym (foldl-append step (step st (held ++ q)) qs (heldBefore r ps rest .pieces)))
 
   -- two chunks are as one
@@ -98,7 +98,7 @@ module _ {S : Type 0} (step : S → List ℕ → S) (no-further : LooksNoFurther
       two-chunks run c (joinedChunks cs)
 
   pub all-chunks : (st : S) (cs : List (List ℕ)) → foldl (ranOver step) (startOf st) cs ≡ ranLines step st (cut (joinedChunks cs))
-  unfolding cut heldBefore keptWith
+  unfolding cut heldBefore clippedWith
   all-chunks st cs =
       from-settled (startOf st) cs refl ∙ sym (ap (ranLines step st) (nothing-before (cut (joinedChunks cs) .pieces) (cut (joinedChunks cs) .rest)))
 

@@ -1,8 +1,8 @@
--- A file in chunks, over a step that takes one piece and is not looked into: a run holds a state, and what is kept of the piece that has not ended.
+-- A file in chunks, over a step that takes one piece and is not looked into: a run holds a state, and what is held of the piece that has not ended.
 use Prim.Native.Nat.{ℕ}
 use mathlib.Core.List.{List, [], _∷_, _++_, foldl}
 use Rattle.lines.specs.Lines.{Lines, cut}
-use Rattle.chunks.specs.Unfinished.{keptOf}
+use Rattle.chunks.specs.Unfinished.{clipped}
 
 pub record Run (S : Type 0) : Type 0 where
   pub state : S
@@ -17,9 +17,9 @@ unfoldable pub heldBefore : List ℕ → List (List ℕ) → List ℕ → Lines
 heldBefore held [] rest = record { pieces = []; rest = held ++ rest }
 heldBefore held (p ∷ ps) rest = record { pieces = (held ++ p) ∷ ps; rest = rest }
 
--- pieces taken one after the other, and of the rest kept what is needed
+-- pieces taken one after the other, and of the rest held what is needed
 abbrev pub ranLines : {S : Type 0} → (S → List ℕ → S) → S → Lines → Run S
-ranLines step st ls = record { state = foldl step st (ls .pieces); held = keptOf (ls .rest) }
+ranLines step st ls = record { state = foldl step st (ls .pieces); held = clipped (ls .rest) }
 
 -- one chunk
 abbrev pub ranOver : {S : Type 0} → (S → List ℕ → S) → Run S → List ℕ → Run S

@@ -1,9 +1,9 @@
-// What is kept of a piece whose LF has not come, while a file comes in chunks of any size.
+// What is held of a piece whose LF has not come, while a file comes in chunks of any size.
 ghost use mathlib.Core.Path.{_≡_};
 ghost use mathlib.Core.List.{[], _++_};
 ghost use Prim.Native.Nat.{min};
 ghost use lib.ListN.{length};
-ghost use Rattle.chunks.specs.Unfinished.{heldBy, holding, keptOf, keptWith};
+ghost use Rattle.chunks.specs.Unfinished.{heldBy, holding, clipped, clippedWith};
 
 // The widest record of all layouts (240 bytes), its CR, and the last byte of a longer piece.
 pub const ROOM: usize = 242;
@@ -14,7 +14,7 @@ pub struct Unfinished {
     pub length: usize,
 }
 
-// Where one more byte goes: behind what is kept, or in the last place.
+// Where one more byte goes: behind what is held, or in the last place.
 fn next_place(length: usize) -> usize
     ensures { λ r. ⌜ r ≡ min length 241 ⌝ }
 {
@@ -49,7 +49,7 @@ impl Unfinished {
     // The bytes of a part behind those of a state that has zeros behind what it holds.
     fn extended(self, part: &[u8]) -> Unfinished
         requires { ⌜ (self ≡ holding (heldBy self)) ⌝ }
-        ensures { λ r. ⌜ r ≡ holding (keptWith (heldBy self) (now (part .entry))) ⌝ }
+        ensures { λ r. ⌜ r ≡ holding (clippedWith (heldBy self) (now (part .entry))) ⌝ }
     {
         let mut bytes = self.bytes;
         let mut length = self.length;
@@ -65,7 +65,7 @@ impl Unfinished {
 
     // The bytes of a part behind those that are held.
     pub fn followed_by(self, part: &[u8]) -> Unfinished
-        ensures { λ r. ⌜ r ≡ holding (keptOf (heldBy self ++ now (part .entry))) ⌝ }
+        ensures { λ r. ⌜ r ≡ holding (clipped (heldBy self ++ now (part .entry))) ⌝ }
     {
         let bytes = self.bytes;
         let size = self.size();

@@ -3,41 +3,35 @@
 use Prim.Native.Nat.{ℕ, suc, _+_, _≤_, _<_}
 use mathlib.Core.Path.{_≡_, refl, sym, _∙_, ap, subst}
 use mathlib.Core.List.{List, [], _∷_, _++_, map}
-use mathlib.Core.Bool.{true}
+use mathlib.Core.Bool.{true, false}
 use native.Mathlib.Omega.{arith}
 use lib.ListN.{length}
 use borrow.Author.Tests.{le-leb, lt-leb}
 use Rattle.refusal.specs.declared.Refusal.{Refusal}
-use Rattle.lines.specs.Lines.{cr, allNoLf, joined, withCr}
+use Rattle.lines.specs.Lines.{allNoLf, joined}
 use Rattle.lines.proofs.Cuts.{cut-joined}
-use Rattle.lines.proofs.Ends.{cr-ends, before-last}
+use Rattle.edition.specs.Known.{known}
 use Rattle.card_record.specs.Reading.{readingOf}
 use Rattle.card_run.specs.declared.stage.Stage.{Stage}
 use Rattle.card_run.specs.declared.stage.Stage.the-variants.{Start, BetweenBatches, InBatch, Ended, Closed, Refused}
 use Rattle.card_run.specs.declared.running.Running.{Running}
 use Rattle.card_run.specs.declared.answer.Accepted.{Accepted as AcceptedFile}
 use Rattle.card_run.specs.declared.answer.CardAnswer.the-variants.{GoingOn, Accepted as accepted, Refused as refused}
-use Rattle.card_run.specs.Running.{openOf, nextNumber, tookAt, fedOf, closedAt, closedOf}
+use Rattle.card_run.specs.Running.{openOf, nextNumber, closedAt, closedOf, lateAt}
+use Rattle.card_step.specs.Step.{tookAt}
+use Rattle.card_file.specs.Feeding.{fedOf, fedAll}
 use Rattle.card_run.specs.Answer.{answerAt, answerOf}
 use Rattle.card_file.specs.CardFile.{lineOf, linesOf, endOf, ranOf, checkOf}
-use Rattle.demands.specs.Feeding.{fedAll, upTo, FedAsWhole, RefusedForGood, badEdition, afterTheEnd, AfterAcceptedClose, OnePastTheLast}
-use Rattle.demands.proofs.Stays as stays
-use Rattle.demands.proofs.Standing.{StandsAt, Stands, next-number, fed-all, fed-open}
-
--- the line of a record with its CR is the record
-line-is-record : (st : Running) (r : List ℕ) → lineOf st (withCr r) ≡ fedOf st r
-line-is-record st r = rw (cr-ends r) (ap (fedOf st) (before-last r cr))
-
-lines-are-records : (st : Running) (rs : List (List ℕ)) → linesOf st (map withCr rs) ≡ fedAll st rs
-unfolding linesOf fedAll
-lines-are-records st [] = refl
-lines-are-records st (r ∷ rs) = ap (λ next. linesOf next (map withCr rs)) (line-is-record st r) ∙ lines-are-records (fedOf st r) rs
+use Rattle.demands.specs.Feeding.{upTo, FedAsWhole, RefusedForGood, BadEdition, Call, feed, close, called, afterTheEnd, AfterAcceptedClose, OnePastTheLast}
+use Rattle.card_kept.proofs.Stays as stays
+use Rattle.card_kept.proofs.Batches.{fed-row, lines-are}
+use Rattle.card_kept.proofs.Standing.{StandsAt, Stands, next-number, fed-all, fed-open}
 
 -- closing gives the file's answer
 whole : (edition : ℕ) (rs : List (List ℕ)) → allNoLf rs ≡ true → answerOf (closedOf (fedAll (openOf edition) rs)) ≡ checkOf edition (joined rs)
 unfolding endOf
 whole edition rs e =
-    sym (ap (λ ls. answerOf (ranOf (openOf edition) ls)) (cut-joined rs e) ∙ ap (λ st. answerOf (closedOf st)) (lines-are-records (openOf edition) rs))
+    sym (ap (λ ls. answerOf (ranOf (openOf edition) ls)) (cut-joined rs e) ∙ ap (λ st. answerOf (closedOf st)) (lines-are (openOf edition) rs))
 
 -- a refusal is given from its record on, and not before
 given : (k : ℕ) (x : Refusal) → x .«record» ≤ k → refused x ≡ upTo k (refused x)
@@ -82,12 +76,6 @@ after k st left = by (st .stage) refl
         let is : answerOf st ≡ refused x = stays.answer-of st x e in
         is ∙ given k x (h .1) ∙ ap (upTo k) (sym (ap answerOf kept ∙ is))
 
--- some records, and then the others
-fed-in-parts : (st : Running) (a b : List (List ℕ)) → fedAll st (a ++ b) ≡ fedAll (fedAll st a) b
-unfolding fedAll
-fed-in-parts st [] b = refl
-fed-in-parts st (r ∷ a) b = fed-in-parts (fedOf st r) a b
-
 -- THE THEOREM: "Equality with the whole holds for records without LF"
 pub fed-as-whole : (edition : ℕ) (records : List (List ℕ)) → allNoLf records ≡ true → FedAsWhole edition records
 fed-as-whole edition records clear =
@@ -95,19 +83,25 @@ fed-as-whole edition records clear =
       closed = whole edition records clear;
       after-each = λ fed left split.
           let st = fedAll (openOf edition) fed in
-          let all : fedAll (openOf edition) records ≡ fedAll st left = ap (fedAll (openOf edition)) split ∙ fed-in-parts (openOf edition) fed left in
+          let all : fedAll (openOf edition) records ≡ fedAll st left = ap (fedAll (openOf edition)) split ∙ fed-row (openOf edition) fed left in
           after (length fed) st left (fed-open edition fed) ∙
           ap (λ next. upTo (length fed) (answerOf (closedOf next))) (sym all) ∙
           ap (upTo (length fed)) (whole edition records clear);
     }
 
+called-all : (x : Refusal) (st : Running) (calls : List Call) → st .stage ≡ Refused x → called st calls ≡ st
+unfolding called
+called-all x st [] e = refl
+called-all x st (feed r ∷ calls) e = ap (λ next. called next calls) (stays.fed x st r e) ∙ called-all x st calls e
+called-all x st (close ∷ calls) e = ap (λ next. called next calls) (stays.closed x st e) ∙ called-all x st calls e
+
 -- "Once refused, every later call gives that same refusal", in every state
 pub refused-for-good : (st : Running) (x : Refusal) → answerOf st ≡ refused x → RefusedForGood st x
-refused-for-good st x e calls = ap answerOf (stays.called-all x st calls (stays.stage-of st x e)) ∙ e
+refused-for-good st x e calls = ap answerOf (called-all x st calls (stays.stage-of st x e)) ∙ e
 
 -- "A bad edition is refused, 1, from the start"
-pub bad-edition : (edition : ℕ) → (edition ≡ 1 → ⊥) → (edition ≡ 2 → ⊥) → RefusedForGood (openOf edition) badEdition
-bad-edition edition one two = refused-for-good (openOf edition) badEdition (stays.bad-edition-opens edition one two)
+pub bad-edition : (edition : ℕ) → known edition ≡ false → BadEdition edition
+bad-edition edition bad = refused-for-good (openOf edition) _ (stays.bad-edition-opens edition bad)
 
 -- an accepted answer is that of a closed run
 pub closed-stage : (st : Running) (answer : AcceptedFile) → answerOf st ≡ accepted answer → st .stage ≡ Closed
@@ -124,7 +118,7 @@ closed-stage st answer = by (st .stage)
 
 -- "After an accepted close, a further record is 13 and a further close the same answer", in every state
 pub after-accepted-close : (st : Running) (answer : AcceptedFile) → answerOf st ≡ accepted answer → AfterAcceptedClose st answer
-unfolding answerAt tookAt closedAt
+unfolding answerAt tookAt closedAt lateAt
 after-accepted-close st answer e =
     let s = closed-stage st answer e in
     record {

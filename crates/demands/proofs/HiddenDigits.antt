@@ -7,18 +7,23 @@ use mathlib.Core.Bool.{Bool, true, false, cond, _&&_}
 use lib.ListN.{length, getD, take, drop}
 use lib.Dec.{leb}
 use Rattle.refusal.specs.declared.Cause.the-variants.{EditionUnknown, OutputTooShort}
+use Rattle.refusal.specs.Nowhere.{nowhere}
 use Rattle.pan.proofs.Tests.{by-test}
 use Rattle.pan.proofs.Stars.{length-kept, at-place}
 use Rattle.lines.specs.Lines.{endsInCr, withoutLast}
+use Rattle.edition.specs.Known.{known}
 use Rattle.card_run.specs.declared.running.Running.{Running}
 use Rattle.card_run.specs.declared.answer.CardAnswer.{CardAnswer}
 use Rattle.card_run.specs.declared.answer.CardAnswer.the-variants.{GoingOn, Accepted, Refused}
-use Rattle.card_run.specs.Running.{openOf, tookOf, fedOf, closedOf}
+use Rattle.card_run.specs.Running.{openOf, closedOf}
+use Rattle.card_step.specs.Step.{tookOf}
+use Rattle.card_file.specs.Feeding.{fedOf, fedAll}
 use Rattle.card_run.specs.Answer.{answerOf}
 use Rattle.card_file.specs.CardFile.{unendedOf, lineOf, linesOf, endOf, checkOf}
-use Rattle.card_mask.specs.Mask.{nowhere, maskAnswer, maskedInto}
-use Rattle.card_sheet.specs.SheetOf.{sheetAnswer, sheetInto}
-use Rattle.demands.specs.Feeding.{fedAll, Call, called}
+use Rattle.card_file.specs.Room.{answerWithRoom}
+use Rattle.card_mask.specs.Mask.{maskAnswer, maskedInto}
+use Rattle.card_sheet.specs.SheetOf.{sheetInto}
+use Rattle.demands.specs.Feeding.{Call, called}
 use Rattle.demands.specs.HiddenDigits.{
   TwinRecords,
   TwinFiles,
@@ -85,24 +90,21 @@ same-check edition s t w =
     let ws = files.twin-pieces s t w in
     ap answerOf (ap₂ endOf (same-lines (openOf edition) (ws .0)) (ws .1))
 
--- the answer of masking, and what it leaves in the output
-same-answer : (edition : ℕ) (s t : List ℕ) (room : ℕ) → TwinFiles s t → maskAnswer edition s room ≡ maskAnswer edition t room
-unfolding maskAnswer
-same-answer edition s t room w =
-    ap₂ (λ wide answer. cond (leb 1 edition && leb edition 2) (cond (leb wide room) answer (nowhere OutputTooShort)) (nowhere EditionUnknown))
-    (w .same-length) (same-check edition s t w)
+-- a question that writes, by the room that it needs
+same-answer : (edition : ℕ) (s t : List ℕ) {need need' : ℕ} (room : ℕ) → need ≡ need' → TwinFiles s t →
+    answerWithRoom edition s need room ≡ answerWithRoom edition t need' room
+unfolding answerWithRoom
+same-answer edition s t room e w =
+    ap₂ (λ need answer.
+    cond (known edition) (cond (leb need room) answer (Refused (nowhere OutputTooShort))) (Refused (nowhere EditionUnknown)))
+    e (same-check edition s t w)
 
+-- what masking leaves in the output
 same-output : (answer : CardAnswer) (s t out : List ℕ) → TwinFiles s t → maskedInto answer s out ≡ maskedInto answer t out
 unfolding maskedInto
 same-output GoingOn s t out w = refl
 same-output (Accepted a) s t out w = ap₂ (λ copy wide. copy ++ drop wide out) (same-masked s t w) (w .same-length)
 same-output (Refused x) s t out w = refl
-
--- the answer of a file's day sheet
-same-sheet : (edition : ℕ) (s t : List ℕ) (room : ℕ) → TwinFiles s t → sheetAnswer edition s room ≡ sheetAnswer edition t room
-unfolding sheetAnswer
-same-sheet edition s t room w =
-    ap (λ answer. cond (leb 1 edition && leb edition 2) (cond (leb 52 room) answer (nowhere OutputTooShort)) (nowhere EditionUnknown)) (same-check edition s t w)
 
 -- THE THEOREM
 pub hidden-digits-reach-nothing : HiddenDigitsReachNothing
@@ -114,14 +116,14 @@ hidden-digits-reach-nothing =
       after-calls = λ st cs ds ws. same-calls st ws;
       whole = same-check;
       masks = λ edition s t out w a b after-s after-t m n.
-          let answers = same-answer edition s t (length out) w in (
+          let answers = same-answer edition s t (length out) (w .same-length) w in (
             m .answers ∙ answers ∙ sym (n .answers),
             m .leaves ∙ ap (λ answer. maskedInto answer s out) answers ∙ same-output (maskAnswer edition t (length out)) s t out w ∙ sym (n .leaves),
           );
       in-chunks = λ edition cs ds w. as-the-whole .card-file edition cs ∙ same-check edition (joinedChunks cs) (joinedChunks ds) w ∙ sym (as-the-whole .card-file edition ds);
       copied = λ cs ds w. as-the-whole .masked-copy cs ∙ same-masked (joinedChunks cs) (joinedChunks ds) w ∙ sym (as-the-whole .masked-copy ds);
       sheets = λ edition s t out w a b after-s after-t m n.
-          let answers = same-sheet edition s t (length out) w in (
+          let answers = same-answer edition s t (length out) refl w in (
             m .answers ∙ answers ∙ sym (n .answers),
             m .leaves ∙ ap (λ answer. sheetInto edition answer out) answers ∙ sym (n .leaves),
           );

@@ -18,15 +18,19 @@ use Rattle.pan.specs.Masked.{starWhere}
 use Rattle.pan.proofs.Stars.{equal-stars}
 use Rattle.lines.specs.Lines.{inFront, cut, joined, endsInCr, withoutLast}
 use Rattle.card_content.specs.Content.{inSet, contentRules}
-use Rattle.card_content.specs.Field.{tableRules, recordRules, plainNumber}
+use Rattle.card_content.specs.Field.{tableRules, recordRules}
 use Rattle.card_sale.specs.Cv.{joinedRules}
-use Rattle.card_record.specs.CardPart.{cardPartIn}
+use Rattle.card_record.specs.CardPart.{cardPartFound}
 use Rattle.card_record.specs.Kind.{kindNamed}
-use Rattle.card_record.specs.Reading.{numbersOf, judgedAs, readFound}
+use Rattle.card_record.specs.Reading.{rightReading, judgedAs, readFound}
 use Rattle.card_run.specs.Answer.{answerAt}
-use Rattle.card_run.specs.Running.{joinedAt, runRules, behind, settled, tookAt, closedAt}
+use Rattle.edition.specs.Known.{known}
+use Rattle.card_run.specs.Running.{closedAt, lateAt}
+use Rattle.card_step.specs.Rules.{joinedAt, rulesOf}
+use Rattle.card_step.specs.Behind.{behind}
+use Rattle.card_step.specs.Step.{behindOrRefused, tookAt}
 use Rattle.card_file.specs.CardFile.{linesOf, endOf, checkOf}
-use Rattle.demands.specs.FirstFault.{isAccepted}
+use Rattle.card_kept.specs.FirstFault.{isAccepted}
 use Rattle.demands.specs.HiddenDigits.{hiddenAt, hiddenInPieces, hiddenIn, TwinFiles}
 use Rattle.demands.specs.HiddenDigitsExample.{oneFile, otherFile, TwinsThatDiffer}
 
@@ -35,11 +39,11 @@ picked : ℕ → Bool
 picked i = (hiddenIn oneFile i && digit (getD oneFile i 0)) && (hiddenIn otherFile i && digit (getD otherFile i 0))
 
 twins : TwinFiles oneFile otherFile
-unfolding picked allowed holdsOnly sameBytes wellFormed leadingZeros hiddenPlaces starWhere inFront cut joined endsInCr withoutLast cardPartIn hiddenAt hiddenInPieces
+unfolding picked allowed holdsOnly sameBytes wellFormed leadingZeros hiddenPlaces starWhere inFront cut joined endsInCr withoutLast kindNamed cardPartFound hiddenAt hiddenInPieces
 twins = equal-stars picked oneFile otherFile .0 refl
 
 accepted : isAccepted (checkOf 2 oneFile) ≡ true
-unfolding firstBroken allowed holdsOnly valueFrom sameBytes hasByte oneByteOf daysIn isDay isTime whenRules wellFormed leadingZeros inFront cut joined endsInCr withoutLast inSet contentRules joinedRules tableRules recordRules plainNumber kindNamed numbersOf judgedAs readFound answerAt joinedAt runRules behind settled tookAt closedAt linesOf endOf
+unfolding known firstBroken allowed holdsOnly valueFrom sameBytes hasByte oneByteOf daysIn isDay isTime whenRules wellFormed leadingZeros inFront cut joined endsInCr withoutLast inSet contentRules joinedRules tableRules recordRules kindNamed rightReading judgedAs readFound answerAt joinedAt rulesOf behind behindOrRefused tookAt closedAt linesOf endOf lateAt
 accepted = refl
 
 differ : oneFile ≡ otherFile → ⊥

@@ -10,9 +10,9 @@ use Rattle.refusal.specs.declared.Cause.the-variants.{BytesAfterTheEnd}
 use Rattle.refusal.specs.declared.Refusal.{Refusal}
 use Rattle.lines.specs.Lines.{Lines, cut, rejoined, IsCut, endsInCr, withoutLast}
 use Rattle.lines.proofs.Cuts.{cut-is-cut}
-use Rattle.chunks.specs.Unfinished.{keptWith, keptOf, oneMore, heldBy, holding}
+use Rattle.chunks.specs.Unfinished.{clippedWith, clipped, oneMore, heldBy, holding}
 use Rattle.chunks.specs.Chunks.{heldBefore, ranOver}
-use Rattle.chunks.proofs.Kept.{kept-some}
+use Rattle.chunks.proofs.Clipped.{clipped-some}
 use Rattle.chunks.proofs.Held.{held-back}
 use Rattle.card_run.specs.declared.stage.Stage.{Stage}
 use Rattle.card_run.specs.declared.stage.Stage.the-variants.{Start, BetweenBatches, InBatch, Ended, Closed, Refused}
@@ -20,7 +20,9 @@ use Rattle.card_run.specs.declared.running.Running.{Running}
 use Rattle.card_run.specs.declared.answer.Accepted.{Accepted as CardNumbers}
 use Rattle.card_run.specs.declared.answer.CardAnswer.the-variants.{GoingOn, Accepted, Refused as refused}
 use Rattle.card_record.specs.Reading.{readingOf}
-use Rattle.card_run.specs.Running.{tookAt, fedOf, closedAt, closedOf, refusedAt}
+use Rattle.card_run.specs.Running.{closedAt, closedOf, refusedAt, lateAt}
+use Rattle.card_step.specs.Step.{tookAt}
+use Rattle.card_file.specs.Feeding.{fedOf}
 use Rattle.card_run.specs.Answer.{answerAt, answerOf}
 use Rattle.card_file.specs.CardFile.{unendedAt, unendedOf, lineOf, endOf}
 use Rattle.card_stream.specs.declared.Stream.{Stream}
@@ -34,7 +36,7 @@ use Rattle.payroll_stream.specs.Stream as payroll
 use Rattle.payroll_stream.proofs.InChunks as payroll-stream
 use Rattle.demands.specs.Feeding.{afterTheEnd}
 use Rattle.demands.specs.InChunks.{AsTheWhole, AfterTheEnd}
-use Rattle.demands.proofs.Stays as stays
+use Rattle.card_kept.proofs.Stays as stays
 use Rattle.demands.proofs.Feeding.{closed-stage}
 
 pub as-the-whole : AsTheWhole
@@ -57,7 +59,7 @@ closed-again st Closed e = ap (λ s. closedAt s st) e
 closed-again st (Refused r) e = ap (λ s. closedAt s st) e
 
 unended-again : (st : Running) (stage : Stage) → st .stage ≡ stage → closedOf (unendedAt stage st) ≡ unendedAt stage st
-unfolding closedAt unendedAt
+unfolding closedAt unendedAt lateAt
 unended-again st Start e = refl
 unended-again st BetweenBatches e = refl
 unended-again st InBatch e = refl
@@ -85,7 +87,7 @@ closed-decides st Closed k e = let f : answerAt Closed st ≡ GoingOn = ap (λ s
 closed-decides st (Refused r) k e = let f : answerAt (Refused r) st ≡ GoingOn = ap (λ s. answerAt s st) (sym k) ∙ e in cc
 
 unended-decides : (st : Running) (stage : Stage) → st .stage ≡ stage → answerOf (unendedAt stage st) ≡ GoingOn → _≡_ {A = ℕ} 0 1
-unfolding unendedAt answerAt
+unfolding unendedAt answerAt lateAt
 unended-decides st Start k e = cc
 unended-decides st BetweenBatches k e = cc
 unended-decides st InBatch k e = cc
@@ -120,7 +122,7 @@ refused-lines x st (p ∷ ps) e = ap (λ next. foldl lineOf next ps) (stays.line
 
 -- behind an accepted end a line is 13
 closed-line : (st : Running) (p : List ℕ) → st .stage ≡ Closed → lineOf st p ≡ refusedAt BytesAfterTheEnd 0 st
-unfolding tookAt unendedAt
+unfolding tookAt unendedAt lateAt
 closed-line st p e = by (endsInCr p)
   where
     by : (ends : Bool) → cond ends (fedOf st (withoutLast p)) (unendedOf st) ≡ refusedAt BytesAfterTheEnd 0 st
@@ -128,23 +130,23 @@ closed-line st p e = by (endsInCr p)
     by false = ap (λ s. unendedAt s st) e
 
 -- and so is any byte
-some-kept : (r : List ℕ) → 0 < length r → 0 < length (keptOf r)
-unfolding keptWith
-some-kept [] h = h
-some-kept (b ∷ s) h = kept-some b [] s
+some-clipped : (r : List ℕ) → 0 < length r → 0 < length (clipped r)
+unfolding clippedWith
+some-clipped [] h = h
+some-clipped (b ∷ s) h = clipped-some b [] s
 
 behind-closed : (st : Running) (ps : List (List ℕ)) (rest : List ℕ) → st .stage ≡ Closed → (ps ≡ [] → 0 < length rest) →
-    answerOf (card.withHeld (heldBy (holding (keptOf rest))) (foldl lineOf st ps)) ≡ refused (afterTheEnd st)
+    answerOf (card.withHeld (heldBy (holding (clipped rest))) (foldl lineOf st ps)) ≡ refused (afterTheEnd st)
 unfolding card.behindEnd answerAt
 behind-closed st [] rest e h =
-    ap (λ held. answerOf (card.withHeld held st)) (held-back (keptOf rest)) ∙
-    ap answerOf (with-bytes (keptOf rest) st (some-kept rest (h refl))) ∙
+    ap (λ held. answerOf (card.withHeld held st)) (held-back (clipped rest)) ∙
+    ap answerOf (with-bytes (clipped rest) st (some-clipped rest (h refl))) ∙
     ap (λ stage. answerOf (card.behindEnd stage st)) e
 behind-closed st (p ∷ ps) rest e h =
     let ended = refusedAt BytesAfterTheEnd 0 st in
     let next : foldl lineOf (lineOf st p) ps ≡ ended =
     ap (λ next. foldl lineOf next ps) (closed-line st p e) ∙ refused-lines (afterTheEnd st) ended ps refl in
-    refused-answers (afterTheEnd st) (foldl lineOf (lineOf st p) ps) (heldBy (holding (keptOf rest))) (ap (λ (r : Running). r .stage) next)
+    refused-answers (afterTheEnd st) (foldl lineOf (lineOf st p) ps) (heldBy (holding (clipped rest))) (ap (λ (r : Running). r .stage) next)
 
 -- what a chunk leaves behind bytes that wait, and behind none
 waiting-stay : (held : List ℕ) (ps : List (List ℕ)) (rest : List ℕ) → 0 < length held → heldBefore held ps rest .pieces ≡ [] →
@@ -208,7 +210,7 @@ stage-refused s x r = (
 
 -- and of one with bytes that wait behind an accepted end
 bytes-wait : (s : Stream) → s .state .stage ≡ Closed → 0 < length (heldBy (s .held)) → StaysRefused s (afterTheEnd (s .state))
-unfolding card.withHeld unendedAt answerAt
+unfolding card.withHeld unendedAt answerAt lateAt
 bytes-wait s c h = (
   λ chunk.
       let held = heldBy (s .held) in
@@ -228,7 +230,7 @@ card-refused s x e =
 
 -- after an accepted end
 nothing-more : (s : Stream) (a : CardNumbers) → heldBy (s .held) ≡ [] → card.answerOf s ≡ Accepted a → card.answerOf (card.takenOf s []) ≡ Accepted a
-unfolding card.withHeld cut heldBefore keptWith
+unfolding card.withHeld cut heldBefore clippedWith
 nothing-more s a none e =
     ap (λ held. card.answerOf (card.streamOf (ranOver lineOf (record { state = s .state; held = held }) []))) none ∙
     sym (ap (λ held. answerOf (card.withHeld held (s .state))) none) ∙ e

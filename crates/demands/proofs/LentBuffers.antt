@@ -2,7 +2,7 @@
 -- only where it is a refusal.
 use Prim.Native.Nat.{ℕ}
 use mathlib.Core.Path.{_≡_, refl, sym, _∙_, ap}
-use mathlib.Core.List.{List}
+use mathlib.Core.List.{List, []}
 use mathlib.Core.Bool.{Bool, true, false, cond, _&&_}
 use lib.ListN.{length}
 use lib.Dec.{leb}
@@ -18,16 +18,16 @@ use Rattle.day_sheet.specs.declared.writer.SheetWritten.the-variants.{Written, 
 use Rattle.day_sheet.specs.Sheet.{sheetAllowed}
 use Rattle.day_sheet.specs.Reading.{writeAnswer, writeResult, Writes}
 use Rattle.day_sheet.specs.Answer.{writtenRow}
-use Rattle.demands.specs.LentBuffers.{cardDone, sheetDone, masking, sheet-of-file, writing-sheet, AllZero, LeftAlone, RefusedLeavesAlone}
+use Rattle.demands.specs.LentBuffers.{cardCounts, AllZero, IfRefused, RefusedLeavesAlone}
 
 -- a card file's answer: the output that goes with a refusal is the one lent
 card-alone : (into : CardAnswer → List ℕ) (out after : List ℕ) → ((r : Refusal) → into (Refused r) ≡ out) → (answer : CardAnswer) →
-    after ≡ into answer → (rowOf answer .number ≡ 0 → ⊥) → LeftAlone (cardDone (rowOf answer) out after)
+    after ≡ into answer → IfRefused (rowOf answer .number) (after ≡ out) (cardCounts (rowOf answer))
 unfolding rowOf AllZero
 card-alone into out after same GoingOn e refused = absurd (refused refl)
 card-alone into out after same (Accepted a) e refused = absurd (refused refl)
 card-alone into out after same (Refused r) e refused =
-    record { buffer = e ∙ same r; counts = (refl, (refl, (refl, (refl, (refl, (refl, (refl, (refl, tt)))))))) }
+    record { lent = e ∙ same r; zero = (refl, (refl, (refl, (refl, (refl, (refl, (refl, (refl, tt)))))))) }
 
 -- writing a sheet: it is refused where the numbers are not allowed, or the output is too short
 not-written : (allowed wide : Bool) (r s : Refusal) (written out : List ℕ) {answer : SheetWritten} →
@@ -37,19 +37,22 @@ not-written true true r s written out e refused = absurd (refused (ap (λ a. wri
 not-written true false r s written out e refused = refl
 not-written false wide r s written out e refused = refl
 
-sheet-alone : (sheet : Sheet) (out after : List ℕ) (answer : SheetWritten) → Writes sheet out answer after → (writtenRow answer .number ≡ 0 → ⊥) →
-    LeftAlone (sheetDone (writtenRow answer) out after)
+sheet-alone : (sheet : Sheet) (out : List ℕ) (answer : SheetWritten) (after : List ℕ) → Writes sheet out answer after →
+    IfRefused (writtenRow answer .number) (after ≡ out) []
 unfolding writeAnswer writeResult AllZero
-sheet-alone sheet out after answer w refused =
-    record { buffer = w .leaves ∙ not-written (sheetAllowed sheet) (leb 52 (length out)) _ _ _ out (w .answers) refused; counts = tt }
+sheet-alone sheet out answer after w refused =
+    record { lent = w .leaves ∙ not-written (sheetAllowed sheet) (leb 52 (length out)) _ _ _ out (w .answers) refused; zero = tt }
 
 -- THE THEOREM
 pub refused-leaves-alone : RefusedLeavesAlone
 unfolding maskedInto sheetInto
-refused-leaves-alone d (masking {edition} {file} {out} {answer} {after} m) refused =
-    let into : CardAnswer → List ℕ = λ a. maskedInto a file out in
-    card-alone into out after (λ r. refl) answer (m .leaves ∙ ap into (sym (m .answers))) refused
-refused-leaves-alone d (sheet-of-file {edition} {file} {out} {answer} {after} s) refused =
-    let into : CardAnswer → List ℕ = λ a. sheetInto edition a out in
-    card-alone into out after (λ r. refl) answer (s .leaves ∙ ap into (sym (s .answers))) refused
-refused-leaves-alone d (writing-sheet w) refused = sheet-alone _ _ _ _ w refused
+refused-leaves-alone =
+    record {
+      masking = λ edition file out answer after m.
+          let into : CardAnswer → List ℕ = λ a. maskedInto a file out in
+          card-alone into out after (λ r. refl) answer (m .leaves ∙ ap into (sym (m .answers)));
+      sheet-of-file = λ edition file out answer after s.
+          let into : CardAnswer → List ℕ = λ a. sheetInto edition a out in
+          card-alone into out after (λ r. refl) answer (s .leaves ∙ ap into (sym (s .answers)));
+      writing-sheet = sheet-alone;
+    }

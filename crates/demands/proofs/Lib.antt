@@ -1,11 +1,6 @@
 pub mod Examples
-pub mod Stays
-pub mod Standing
-pub mod AtItsPlace
-pub mod Outcomes
 pub mod Feeding
 pub mod InChunks
-pub mod FirstFault
 pub mod TwinLaws
 pub mod TwinRecords
 pub mod TwinFiles

@@ -1,7 +1,7 @@
 -- Two records that differ only in hidden digits read the same: a record with no card is its only twin, and one with a card has a twin
 -- with the card at the same place, equal outside it, and the two cards are twins (the law of reading).
 use Prim.Native.Nat.{ℕ, _+_, _-_, _<_}
-use mathlib.Core.Path.{_≡_, refl, _∙_, ap}
+use mathlib.Core.Path.{_≡_, refl, sym, _∙_, ap}
 use mathlib.Core.List.{List}
 use mathlib.Core.Bool.{true, false}
 use native.Mathlib.Omega.{arith}
@@ -15,13 +15,12 @@ use Rattle.pan.proofs.HiddenPlaces.{hidden-inside}
 use Rattle.card_content.specs.EqualOutside.{EqualOutside}
 use Rattle.card_content.specs.declared.field.Field.{Field}
 use Rattle.card_content.specs.Field.{partOf}
-use Rattle.card_content.proofs.FieldParts.{clear}
 use Rattle.card_content.proofs.FieldParts as parts
 use Rattle.card_record.specs.declared.card_part.CardPart.{CardPart}
 use Rattle.card_record.specs.declared.card_part.CardPart.the-variants.{From, Nowhere}
 use Rattle.card_record.specs.CardPart.{cardPart, cardFrom}
 use Rattle.card_record.specs.Reading.{readingOf}
-use Rattle.card_record.proofs.CardParts.{has-card, card-inside}
+use Rattle.card_record.proofs.CardParts.{card-inside, clear-of}
 use Rattle.card_record.proofs.LawOfReading.{twins-read, same-place}
 use Rattle.demands.specs.HiddenDigits.{hiddenAt, hiddenInRecord, TwinRecords}
 use Rattle.demands.proofs.TwinLaws.{twins-where, none-hidden, twins-front, twins-behind}
@@ -85,12 +84,12 @@ same-reading edition r s w = by (cardPart r) refl
     by Nowhere e = ap (readingOf edition) (none-hidden (hiddenInRecord r) (hiddenInRecord s) (λ i h. no-card r e i) w)
     by (From k) e = twins-read edition k r s e (outside-card k r s e w) (twin-cards k r s e w)
 
--- and every field but the card's has the same part in both
-pub same-part : (r s : List ℕ) → TwinRecords r s → (f : Field) → clear 87 106 f ≡ true → partOf f r ≡ partOf f s
+-- and every field that keeps clear of the card has the same part in both
+pub same-part : (r s : List ℕ) → TwinRecords r s → (f : Field) → clear-of (cardPart r) f ≡ true → partOf f r ≡ partOf f s
 same-part r s w f h = by (cardPart r) refl
   where
     by : (part : CardPart) → cardPart r ≡ part → partOf f r ≡ partOf f s
     by Nowhere e = ap (partOf f) (none-hidden (hiddenInRecord r) (hiddenInRecord s) (λ i l. no-card r e i) w)
     by (From k) e =
-        let begins = has-card k r e .begins in
-        parts.same-part k (k + 19) r s (outside-card k r s e w) f (rw begins h)
+        let keeps : clear-of (From k) f ≡ true = sym (ap (λ part. clear-of part f) e) ∙ h in
+        parts.same-part k (k + 19) r s (outside-card k r s e w) f keeps

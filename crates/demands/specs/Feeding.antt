@@ -7,19 +7,16 @@ use lib.ListN.{length}
 use lib.Dec.{leb}
 use Rattle.refusal.specs.declared.Cause.the-variants.{EditionUnknown, BytesAfterTheEnd}
 use Rattle.refusal.specs.declared.Refusal.{Refusal}
+use Rattle.refusal.specs.Nowhere.{nowhere}
 use Rattle.lines.specs.Lines.{joined}
 use Rattle.card_run.specs.declared.running.Running.{Running}
 use Rattle.card_run.specs.declared.answer.Accepted.{Accepted as AcceptedFile}
 use Rattle.card_run.specs.declared.answer.CardAnswer.{CardAnswer}
 use Rattle.card_run.specs.declared.answer.CardAnswer.the-variants.{GoingOn, Accepted, Refused}
-use Rattle.card_run.specs.Running.{openOf, nextNumber, fedOf, closedOf}
+use Rattle.card_run.specs.Running.{openOf, nextNumber, closedOf}
+use Rattle.card_file.specs.Feeding.{fedOf, fedAll}
 use Rattle.card_run.specs.Answer.{answerOf}
 use Rattle.card_file.specs.CardFile.{checkOf}
-
--- one record after the other
-unfoldable pub fedAll : Running → List (List ℕ) → Running
-fedAll st [] = st
-fedAll st (r ∷ rs) = fedAll (fedOf st r) rs
 
 -- of the answer of reading the whole, "the refusal that reading the whole gives" at one of the first k records, "or none"
 abbrev pub upTo : ℕ → CardAnswer → CardAnswer
@@ -50,9 +47,9 @@ called st (close ∷ calls) = called (closedOf st) calls
 abbrev pub RefusedForGood : Running → Refusal → Type 0
 RefusedForGood st refusal = (calls : List Call) → answerOf (called st calls) ≡ Refused refusal
 
--- "A bad edition is refused, 1, from the start": "0, 0"
-abbrev pub badEdition : Refusal
-badEdition = record { cause = EditionUnknown; «record» = 0; column = 0 }
+-- "A bad edition is refused, 1, from the start"
+abbrev pub BadEdition : ℕ → Type 0
+BadEdition edition = RefusedForGood (openOf edition) (nowhere EditionUnknown)
 
 -- 13, at the record that comes next: "one past the last, 0"
 abbrev pub afterTheEnd : Running → Refusal

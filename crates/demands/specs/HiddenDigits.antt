@@ -17,12 +17,13 @@ use Rattle.card_run.specs.declared.running.Running.{Running}
 use Rattle.card_run.specs.Running.{openOf, closedOf}
 use Rattle.card_run.specs.declared.answer.CardAnswer.{CardAnswer}
 use Rattle.card_file.specs.CardFile.{checkOf}
-use Rattle.card_field.specs.Field.{refusalOf, fieldOf}
+use Rattle.sale_field.specs.Field.{refusalOf, fieldOf}
 use Rattle.card_mask.specs.Masked.{maskedFile}
 use Rattle.card_mask.specs.Mask.{Masks}
 use Rattle.card_sheet.specs.SheetOf.{SheetOf}
 use Rattle.chunks.specs.Chunks.{joinedChunks}
-use Rattle.demands.specs.Feeding.{fedAll, Call, feed, close, called}
+use Rattle.card_file.specs.Feeding.{fedAll}
+use Rattle.demands.specs.Feeding.{Call, feed, close, called}
 use Rattle.demands.specs.InChunks.{cardInChunks, copiedInChunks}
 
 -- a place of a record, from 0, is hidden where it is a hidden place of the card that begins at k;

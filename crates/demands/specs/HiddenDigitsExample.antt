@@ -7,7 +7,7 @@ use mathlib.Core.Bool.{true}
 use Rattle.text.specs.Literal.{ascii}
 use Rattle.lines.specs.Lines.{joined}
 use Rattle.card_file.specs.CardFile.{checkOf}
-use Rattle.demands.specs.FirstFault.{isAccepted}
+use Rattle.card_kept.specs.FirstFault.{isAccepted}
 use Rattle.demands.specs.HiddenDigits.{TwinFiles}
 
 -- the file with a card of 19 characters

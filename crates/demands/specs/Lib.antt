@@ -1,7 +1,6 @@
 pub mod Examples
 pub mod Feeding
 pub mod InChunks
-pub mod FirstFault
 pub mod HiddenDigits
 pub mod LentBuffers
 pub mod RulesKept

@@ -6,7 +6,7 @@ use native.Mathlib.Omega.{arith}
 use lib.ListN.{length, getD, drop}
 use Rattle.text.specs.Number.{valueFrom, valueOf}
 use Rattle.text.proofs.Numbers.{digit-more}
-use Rattle.edition.specs.Edition.{top}
+use Rattle.totals.specs.Sum.{top}
 
 -- further digits make a value no smaller
 up : (m n : ℕ) (s : List ℕ) → m ≤ n → m ≤ valueFrom n s

@@ -7,12 +7,9 @@ use lib.Dec.{ltb}
 use Rattle.text.specs.Alphabet.{holdsOnly}
 use Rattle.text.specs.declared.alphabet.Alphabet.the-variants.{Digits}
 use Rattle.text.specs.Number.{valueOf}
+use Rattle.totals.specs.Sum.{top}
 use Rattle.edition.specs.declared.Edition.{Edition}
 use Rattle.edition.specs.declared.Edition.the-variants.{Of, NoNumber}
-
--- 2^64 - 1
-abbrev pub top : ℕ
-top = 18_446_744_073_709_551_615
 
 -- one digit or more, and nothing else; a value past 64 bits stays at the top of them, so that it is not 1 or 2
 abbrev pub editionOf : List ℕ → Edition

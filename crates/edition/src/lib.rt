@@ -1,10 +1,14 @@
-// The edition, as an argument states it: any number of decimal digits.
+// The edition: which are known, and what a word states, any number of decimal digits.
 ghost use mathlib.Core.Path.{_≡_};
 ghost use mathlib.Core.Bool.{true};
 ghost use Prim.Native.Nat.{min};
 ghost use Rattle.text.specs.Alphabet.{holdsOnly};
 ghost use Rattle.text.specs.Number.{valueOf};
-ghost use Rattle.edition.specs.Edition.{top, editionOf};
+ghost use Rattle.totals.specs.Sum.{top};
+ghost use Rattle.edition.specs.Edition.{editionOf};
+
+pub mod known;
+
 use text::alphabet::Alphabet;
 
 pub enum Edition {

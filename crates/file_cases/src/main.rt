@@ -1,13 +1,25 @@
-// The file-to-file work: each case runs in a folder of its own, and prints a line of what was asked, the outcome, what then stands at OUT, and
-// whether anything else was left in the folder.
-mod check;
+// The file-to-file work, case by case: each runs in a folder of its own, and prints a line of what was asked, the outcome, what then stands at OUT, and
+// whether anything else was left in the folder. The cases come as steps.
+use cases::cursor;
+use cases::file;
+
 mod folder;
-mod mask;
+mod out;
 mod outcome;
-mod sheet;
+mod question;
+mod step;
+
+// Runs all steps.
+fn run_all(steps: &[u8]) {
+    let mut at = 0;
+    while at < steps.len() {
+        at = step::run_at(steps, at);
+    }
+    cursor::print_end(steps, at);
+}
 
 fn main() {
-    check::print_cases();
-    mask::print_cases();
-    sheet::print_cases();
+    let mut buffer = file::room();
+    let size = file::load(b"own.cases", &mut buffer);
+    run_all(&buffer[..size]);
 }

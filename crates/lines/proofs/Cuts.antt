@@ -71,13 +71,13 @@ cut-rejoined (p ∷ ps) s e =
     first-piece p (rejoined ps s) (n .0) ∙ ap (piecesThen (p ∷ [])) (cut-rejoined ps s (n .1))
 
 -- records with their CR LF are pieces with their LF
-records-are-pieces : (rs : List (List ℕ)) (s : List ℕ) → joined rs ++ s ≡ rejoined (map withCr rs) s
+pub records-are-pieces : (rs : List (List ℕ)) (s : List ℕ) → joined rs ++ s ≡ rejoined (map withCr rs) s
 unfolding joined rejoined
 records-are-pieces [] s = refl
 records-are-pieces (r ∷ rs) s = simp (append-assoc, records-are-pieces rs s)
 
 -- a CR is no LF
-with-cr-clear : (r : List ℕ) → noLf (withCr r) ≡ noLf r
+pub with-cr-clear : (r : List ℕ) → noLf (withCr r) ≡ noLf r
 unfolding noLf
 with-cr-clear [] = refl
 with-cr-clear (b ∷ r) = ap (λ q. cond (eqb b lf) false q) (with-cr-clear r)

@@ -21,7 +21,7 @@ fn main() {
         mistake::tell_usage(b"mask EDITION FILE OUT");
         return;
     }
-    let mut word = [0u8; argument::LONGEST];
+    let mut word = argument::room();
     match argument::edition_at(1, &mut word) {
         Edition::NoNumber => mistake::tell(Mistake::EditionNoNumber),
         Edition::Of(edition) => mask_named(edition),

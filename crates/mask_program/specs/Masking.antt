@@ -1,5 +1,5 @@
 -- What is promised of a buffer whose lines were masked and written: the unfinished one waits at its start.
-use Prim.Native.Nat.{ℕ, _-_, _<_}
+use Prim.Native.Nat.{ℕ, _-_, _<_, _≤_}
 use mathlib.Core.Path.{_≡_}
 use mathlib.Core.List.{List, []}
 use mathlib.Core.Bool.{cond}
@@ -8,6 +8,8 @@ use lib.Dec.{ltb}
 use Rattle.card_mask.specs.Masked.{maskedFile, finishedIn}
 use Rattle.mask_program.specs.declared.copy.Written.{Written}
 use Rattle.mask_program.specs.declared.copy.Written.the-variants.{Tail, Failed}
+use Rattle.mask_program.specs.declared.copy.Next.{Next}
+use Rattle.mask_program.specs.declared.copy.Next.the-variants.{Bytes, End, Failed as NotRead}
 
 -- the bytes from one place up to another were moved to the start
 pub record MovedToFront (before : List ℕ) (from end : ℕ) (after : List ℕ) : Type 0 where
@@ -30,3 +32,9 @@ waiting bytes = drop (finishedIn bytes) (maskedFile bytes)
 abbrev pub leaves : List ℕ → ℕ → List ℕ → Written → Type 0
 leaves before end after (Tail n) = (n < length after) × (take n after ≡ kept (length before) (waiting (take end before)))
 leaves before end after Failed = Unit {0}
+
+-- the unfinished line and what was read behind it lie within the buffer
+abbrev pub nextWithin : ℕ → Next → Type 0
+nextWithin room (Bytes tail end) = (tail ≤ end) × (end ≤ room)
+nextWithin room End = Unit {0}
+nextWithin room (NotRead mistake) = Unit {0}

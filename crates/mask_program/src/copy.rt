@@ -1,7 +1,7 @@
 // A card file's lines, masked and written as long as the file is not refused.
 ghost use Prim.Native.Nat.{_≤_, _<_};
 ghost use lib.ListN.{length};
-ghost use Rattle.mask_program.specs.Masking.{leaves};
+ghost use Rattle.mask_program.specs.Masking.{leaves, nextWithin};
 ghost use Rattle.card_program.specs.Checked.{Checked};
 use crate::buffer;
 use card_program::outcome;
@@ -32,6 +32,29 @@ fn write_lines(draft: Draft, buffer: &mut [u8], end: usize) -> Written
     Written::Tail(buffer::tail_kept(end - lines, buffer.len()))
 }
 
+// What is in the buffer once the lines of a chunk are written.
+enum Next {
+    // The unfinished line, up to the first place, and behind it what was read, up to the second.
+    Bytes(usize, usize),
+    End,
+    Failed(Mistake),
+}
+
+// Writes the lines among the first `end` bytes, and reads what comes next behind the unfinished one.
+fn next_chunk(fd: i32, draft: Draft, buffer: &mut [u8], end: usize) -> Next
+    requires { ⌜ (0 < length (now buffer)) × (end ≤ length (now buffer)) ⌝ }
+    ensures { λ r. ⌜ nextWithin (length (now (buffer .entry))) r ⌝ }
+{
+    let Written::Tail(tail) = write_lines(draft, buffer, end) else {
+        return Next::Failed(Mistake::CannotWrite);
+    };
+    match reading::read_some(fd, &mut buffer[tail..]) {
+        Got::Failed => Next::Failed(Mistake::CannotRead),
+        Got::End => Next::End,
+        Got::Bytes(size) => Next::Bytes(tail, tail + size),
+    }
+}
+
 // Checks a file of which the first bytes are in the buffer, and writes its lines masked as long as it is not refused.
 pub(crate) fn copy_by(
     edition: u64,
@@ -52,15 +75,14 @@ pub(crate) fn copy_by(
         if outcome::is_decided(stream.answer()) {
             return Outcome::Answer(stream.end().answer());
         }
-        let Written::Tail(left) = write_lines(draft, buffer, end) else {
-            return Outcome::Mistake(Mistake::CannotWrite);
-        };
-        match reading::read_some(fd, &mut buffer[left..]) {
-            Got::Failed => return Outcome::Mistake(Mistake::CannotRead),
-            Got::End => return Outcome::Answer(stream.end().answer()),
-            Got::Bytes(size) => end = left + size,
+        match next_chunk(fd, draft, buffer, end) {
+            Next::Failed(mistake) => return Outcome::Mistake(mistake),
+            Next::End => return Outcome::Answer(stream.end().answer()),
+            Next::Bytes(left, behind) => {
+                tail = left;
+                end = behind;
+            }
         }
-        tail = left;
         reads -= 1;
     }
     Outcome::Mistake(Mistake::CannotRead)

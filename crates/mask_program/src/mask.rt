@@ -14,9 +14,6 @@ use out_file::draft::Kept;
 use out_file::place;
 use program::mistake::Mistake;
 
-// How much is read at a time, with the line that the chunk before left unfinished.
-const CHUNK: usize = 65536;
-
 // Gives an accepted file's copy its name, and removes any other.
 fn finish(outcome: Outcome, draft: Draft, out: &[u8]) -> Outcome
     ensures { λ r. ⌜ ((edition : ℕ) → Checked edition outcome → Checked edition r) ⌝ }
@@ -56,7 +53,7 @@ fn mask_by(edition: u64, fd: i32, out: &[u8], buffer: &mut [u8]) -> Outcome
     }
 }
 
-// Masks the file of a name.
+// Masks the file of a name, 65,536 bytes at a time, with the line that the chunk before left unfinished.
 fn mask_file(edition: u64, file: &[u8], out: &[u8]) -> Outcome
     ensures { λ r. ⌜ Checked edition r ⌝ }
 {
@@ -64,7 +61,7 @@ fn mask_file(edition: u64, file: &[u8], out: &[u8]) -> Outcome
     if fd < 0 {
         return Outcome::Mistake(Mistake::CannotOpen);
     }
-    let mut buffer = [0u8; CHUNK];
+    let mut buffer = io::large_buffer();
     let outcome = mask_by(edition, fd, out, &mut buffer);
     libc::close(fd);
     outcome

@@ -1,4 +1,7 @@
 // Files that are made here, because they are too long to be kept.
+ghost use mathlib.Core.Path.{_≡_};
+ghost use Rattle.payroll_cases.specs.Made.{made, putBehind, putAll, paymentsOf, batchOf, alikeBatches, lastBatch, batchCount, fileHeader, fileTrailer, recordsOf, endByte};
+ghost use Rattle.payroll_cases.specs.Record.{recordOf};
 use crate::record;
 use crate::record::Field;
 use crate::record::NONE;
@@ -23,7 +26,9 @@ pub struct Plan {
 }
 
 // Puts so many payments of one amount: the detail number 9-13, the date 94-101, the amount 120-134.
-fn put_payments(batch: u64, payments: u64, amount: u64, out: &mut [u8], at: usize) -> usize {
+fn put_payments(batch: u64, payments: u64, amount: u64, out: &mut [u8], at: usize) -> usize
+    ensures { λ r. ⌜ made (now (out .exit)) r ≡ putAll (made (now (out .entry)) at) (paymentsOf batch amount payments) ⌝ }
+{
     let mut end = at;
     let mut number = 0;
     while number < payments {
@@ -54,7 +59,9 @@ fn put_payments(batch: u64, payments: u64, amount: u64, out: &mut [u8], at: usiz
 }
 
 // Puts a batch. Its trailer has its records 18-23, the sum of its payments 24-41.
-fn put_batch(batch: u64, payments: u32, amount: u64, sum: u64, out: &mut [u8], at: usize) -> usize {
+fn put_batch(batch: u64, payments: u32, amount: u64, sum: u64, out: &mut [u8], at: usize) -> usize
+    ensures { λ r. ⌜ made (now (out .exit)) r ≡ putAll (made (now (out .entry)) at) (batchOf batch payments amount sum) ⌝ }
+{
     let header = Record {
         kind: 1,
         batch,
@@ -85,7 +92,9 @@ fn put_batch(batch: u64, payments: u32, amount: u64, sum: u64, out: &mut [u8], a
 }
 
 // Puts the batches of a plan that differ only in their number.
-fn put_batches(plan: Plan, out: &mut [u8], at: usize) -> usize {
+fn put_batches(plan: Plan, out: &mut [u8], at: usize) -> usize
+    ensures { λ r. ⌜ made (now (out .exit)) r ≡ putAll (made (now (out .entry)) at) (alikeBatches plan (plan .batches)) ⌝ }
+{
     let batches = plan.batches as u64;
     let mut end = at;
     let mut batch = 0;
@@ -97,7 +106,9 @@ fn put_batches(plan: Plan, out: &mut [u8], at: usize) -> usize {
 }
 
 // Puts the batch of one payment behind the others, where the plan has one.
-fn put_last(plan: Plan, out: &mut [u8], at: usize) -> usize {
+fn put_last(plan: Plan, out: &mut [u8], at: usize) -> usize
+    ensures { λ r. ⌜ made (now (out .exit)) r ≡ putAll (made (now (out .entry)) at) (lastBatch plan) ⌝ }
+{
     if plan.last == 0 {
         return at;
     }
@@ -105,7 +116,9 @@ fn put_last(plan: Plan, out: &mut [u8], at: usize) -> usize {
 }
 
 // How many batches a plan has.
-fn batches_of(plan: Plan) -> u64 {
+fn batches_of(plan: Plan) -> u64
+    ensures { λ r. ⌜ r ≡ batchCount plan ⌝ }
+{
     if plan.last == 0 {
         return plan.batches as u64;
     }
@@ -113,7 +126,9 @@ fn batches_of(plan: Plan) -> u64 {
 }
 
 // Puts the file header, whose date is 144-151.
-fn put_header(out: &mut [u8]) -> usize {
+fn put_header(out: &mut [u8]) -> usize
+    ensures { λ r. ⌜ made (now (out .exit)) r ≡ putBehind (made (now (out .entry)) 0) (recordOf fileHeader) ⌝ }
+{
     let header = Record {
         kind: 0,
         batch: 0,
@@ -130,7 +145,9 @@ fn put_header(out: &mut [u8]) -> usize {
 }
 
 // Puts the file trailer: the batches 18-23, all records 24-29.
-fn put_trailer(plan: Plan, out: &mut [u8], at: usize) -> usize {
+fn put_trailer(plan: Plan, out: &mut [u8], at: usize) -> usize
+    ensures { λ r. ⌜ made (now (out .exit)) r ≡ putBehind (made (now (out .entry)) at) (recordOf (fileTrailer plan)) ⌝ }
+{
     let trailer = Record {
         kind: 9,
         batch: 9999,
@@ -151,7 +168,9 @@ fn put_trailer(plan: Plan, out: &mut [u8], at: usize) -> usize {
 }
 
 // Puts the records of a file, and answers how many bytes they take.
-pub fn put_records(plan: Plan, out: &mut [u8]) -> usize {
+pub fn put_records(plan: Plan, out: &mut [u8]) -> usize
+    ensures { λ r. ⌜ made (now (out .exit)) r ≡ putAll (made (now (out .entry)) 0) (recordsOf plan) ⌝ }
+{
     let header = put_header(out);
     let batches = put_batches(plan, out, header);
     let last = put_last(plan, out, batches);
@@ -159,6 +178,8 @@ pub fn put_records(plan: Plan, out: &mut [u8]) -> usize {
 }
 
 // Puts the byte that ends a file behind its records, and answers how many bytes are there then.
-pub fn put_end(out: &mut [u8], at: usize) -> usize {
+pub fn put_end(out: &mut [u8], at: usize) -> usize
+    ensures { λ r. ⌜ made (now (out .exit)) r ≡ putBehind (made (now (out .entry)) at) endByte ⌝ }
+{
     record::put_behind(&[b'\x1a'], out, at)
 }

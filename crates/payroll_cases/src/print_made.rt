@@ -1,4 +1,6 @@
 // The lines of the files that are made here.
+ghost use mathlib.Core.Path.{_≡_};
+ghost use Rattle.payroll_cases.specs.Plans.{oneBatch, largeBatches, emptyBatches};
 use crate::line;
 use crate::made;
 use crate::made::Plan;
@@ -30,7 +32,9 @@ fn print_file(plan: Plan, room: &mut [u8]) {
 }
 
 // One batch of so many payments of the largest amount, with this sum.
-fn one_batch(payments: u32, sum: u64) -> Plan {
+fn one_batch(payments: u32, sum: u64) -> Plan
+    ensures { λ r. ⌜ r ≡ oneBatch payments sum ⌝ }
+{
     Plan {
         batches: 1,
         payments,
@@ -41,10 +45,12 @@ fn one_batch(payments: u32, sum: u64) -> Plan {
     }
 }
 
-// Ten batches of a thousand payments of the largest amount, 10^19 - 10000 in all, and an eleventh of one payment.
-fn ten_batches_and(last: u64, records: u64) -> Plan {
+// So many batches of a thousand payments of the largest amount, and one more of one payment where `last` is not 0.
+fn large_batches(batches: u32, last: u64, records: u64) -> Plan
+    ensures { λ r. ⌜ r ≡ largeBatches batches last records ⌝ }
+{
     Plan {
-        batches: 10,
+        batches,
         payments: 1000,
         amount: LARGEST,
         sum: SUM_OF_1000,
@@ -53,20 +59,10 @@ fn ten_batches_and(last: u64, records: u64) -> Plan {
     }
 }
 
-// Nineteen batches of a thousand payments of the largest amount.
-fn nineteen_batches() -> Plan {
-    Plan {
-        batches: 19,
-        payments: 1000,
-        amount: LARGEST,
-        sum: SUM_OF_1000,
-        last: 0,
-        records: 19040,
-    }
-}
-
 // So many batches with no payment.
-fn empty_batches(batches: u32) -> Plan {
+fn empty_batches(batches: u32) -> Plan
+    ensures { λ r. ⌜ r ≡ emptyBatches batches ⌝ }
+{
     Plan {
         batches,
         payments: 0,
@@ -84,17 +80,17 @@ fn print_sums(room: &mut [u8]) {
     print_file(one_batch(18447, 255_926_290_429_937), room);
 }
 
-// The amounts of a whole file: 10^19 - 1; and 10^19, with the byte 1A, without, and behind a wrong count.
+// The amounts of a whole file, of which ten batches have 10^19 - 10000: 10^19 - 1; and 10^19, with the byte 1A, without, and behind a wrong count.
 fn print_amounts(room: &mut [u8]) {
-    print_file(ten_batches_and(9999, 10025), room);
-    print_file(ten_batches_and(10000, 10025), room);
-    print_records(ten_batches_and(10000, 10025), room);
-    print_file(ten_batches_and(10000, 10026), room);
+    print_file(large_batches(10, 9999, 10025), room);
+    print_file(large_batches(10, 10000, 10025), room);
+    print_records(large_batches(10, 10000, 10025), room);
+    print_file(large_batches(10, 10000, 10026), room);
 }
 
 // Many batches: of an amount past 2^64, which is below 10^19 where it wraps; as many as there may be; and one more.
 fn print_many(room: &mut [u8]) {
-    print_file(nineteen_batches(), room);
+    print_file(large_batches(19, 0, 19040), room);
     print_file(empty_batches(9998), room);
     print_file(empty_batches(9999), room);
 }

@@ -1,7 +1,8 @@
 // The records of the files that are made here: blanks, and numbers at their positions.
 ghost use mathlib.Core.Path.{_≡_};
 ghost use lib.ListN.{length};
-ghost use Rattle.payroll_cases.specs.Record.{digitsOf, withField};
+ghost use Rattle.payroll_cases.specs.Record.{digitsOf, withField, withNumbers, recordOf};
+ghost use Rattle.payroll_cases.specs.Made.{made, putBehind};
 
 // A number that stands behind the first `first` bytes of a record, up to the `last` one.
 pub struct Field {
@@ -62,7 +63,9 @@ fn put_field(field: Field, bytes: &mut [u8])
 }
 
 // Puts the numbers of a record: the bank 1-3, the batch 4-7 and the kind 8 as one, and its own.
-fn put_numbers(what: Record, bytes: &mut [u8]) {
+fn put_numbers(what: Record, bytes: &mut [u8])
+    ensures { λ _. ⌜ now (bytes .exit) ≡ withNumbers what (now (bytes .entry)) ⌝ }
+{
     let front = Field {
         first: 0,
         last: 8,
@@ -75,7 +78,9 @@ fn put_numbers(what: Record, bytes: &mut [u8]) {
 }
 
 // Puts bytes behind the first `at` where there is room for them, and answers how many are there then.
-pub fn put_behind(bytes: &[u8], out: &mut [u8], at: usize) -> usize {
+pub fn put_behind(bytes: &[u8], out: &mut [u8], at: usize) -> usize
+    ensures { λ r. ⌜ made (now (out .exit)) r ≡ putBehind (made (now (out .entry)) at) (now (bytes .entry)) ⌝ }
+{
     let size = bytes.len();
     if out.len() < size {
         return at;
@@ -89,7 +94,9 @@ pub fn put_behind(bytes: &[u8], out: &mut [u8], at: usize) -> usize {
 }
 
 // Puts a record behind the first `at` bytes: blanks, the letter 14, the numbers, and the line end.
-pub fn put(what: Record, out: &mut [u8], at: usize) -> usize {
+pub fn put(what: Record, out: &mut [u8], at: usize) -> usize
+    ensures { λ r. ⌜ made (now (out .exit)) r ≡ putBehind (made (now (out .entry)) at) (recordOf what) ⌝ }
+{
     let mut bytes = [b' '; WIDTH];
     bytes[13] = what.letter;
     bytes[240] = b'\r';

@@ -1,6 +1,6 @@
 // Answers of payroll files as rows of numbers, by which two of them are compared.
 ghost use mathlib.Core.Path.{_≡_};
-ghost use Rattle.payroll_cases.specs.Row.{payrollNumbers, progressNumbers};
+ghost use Rattle.payroll_cases.specs.PayrollNumbers.{payrollNumbers, progressNumbers};
 use payroll_file::answer::PayrollAnswer;
 use payroll_stream::Progress;
 

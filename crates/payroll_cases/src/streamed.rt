@@ -5,7 +5,7 @@ ghost use Prim.Native.Nat.{_+_, _≤_};
 ghost use lib.ListN.{length};
 ghost use Rattle.text.specs.Literal.{sameBytes};
 ghost use Rattle.payroll_file.specs.PayrollFile.{checkOf};
-ghost use Rattle.payroll_cases.specs.Row.{payrollNumbers};
+ghost use Rattle.payroll_cases.specs.PayrollNumbers.{payrollNumbers};
 ghost use Rattle.payroll_cases.specs.Streamed.{finishedOf};
 use crate::row;
 use cases::cuts::Cuts;

@@ -9,7 +9,7 @@ use Rattle.refusal.specs.declared.Cause.the-variants.{NoLineEnd, EndsTooEarly, 
 use Rattle.text.specs.Literal.{sameBytes}
 use Rattle.payroll_run.specs.declared.running.Running.{Running}
 use Rattle.payroll_file.specs.declared.answer.PayrollAnswer.the-variants.{Refused}
-use Rattle.payroll_run.specs.Running.{refusalAt}
+use Rattle.payroll_run.specs.State.{refusalAt}
 use Rattle.payroll_file.specs.PayrollFile.{accepted, endedOf, cutShortOf}
 
 pub nothing-cut : (st : Running) (rest : List ℕ) → length rest ≡ 0 → Refused (refusalAt EndsTooEarly 0 st) ≡ cutShortOf st rest

@@ -11,7 +11,8 @@ use Rattle.payroll_run.specs.declared.stage.Stage.the-variants.{Start, BetweenB
 use Rattle.payroll_run.specs.declared.running.Running.{Running}
 use Rattle.payroll_file.specs.declared.answer.PayrollAnswer.{PayrollAnswer}
 use Rattle.payroll_file.specs.declared.answer.PayrollAnswer.the-variants.{Accepted, Refused as refused}
-use Rattle.payroll_run.specs.Running.{opened, refusalAt, refusedAt, tookOf}
+use Rattle.payroll_run.specs.State.{opened, refusalAt, refusedAt}
+use Rattle.payroll_step.specs.Step.{tookOf}
 
 -- 3, "no LF in the rest, or the next LF has no CR right before it in the record"; 13, "bytes after the end", comes first
 unfoldable pub unendedAt : Stage → Running → Running

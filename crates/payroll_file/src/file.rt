@@ -29,7 +29,10 @@ pub fn take_line(state: Running, piece: &[u8]) -> Running
     ensures { λ r. ⌜ r ≡ lineOf state (now (piece .entry)) ⌝ }
 {
     if lines::ends_in_cr(piece) {
-        return state.took(payroll_record::reading::read(lines::without_last(piece)));
+        return payroll_step::took(
+            state,
+            payroll_record::reading::read(lines::without_last(piece)),
+        );
     }
     no_line_end(state)
 }

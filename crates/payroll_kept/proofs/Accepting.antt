@@ -15,7 +15,7 @@ use Rattle.payroll_run.specs.declared.running.Running.{Running}
 use Rattle.payroll_file.specs.declared.answer.Accepted.{Accepted}
 use Rattle.payroll_file.specs.declared.answer.PayrollAnswer.the-variants.{Accepted as accepted}
 use Rattle.payroll_run.specs.Stage.{placed}
-use Rattle.payroll_run.specs.Running.{opened}
+use Rattle.payroll_run.specs.State.{opened, moved, returned}
 use Rattle.payroll_file.specs.PayrollFile.{endedOf, endAt, endOf, ranOf, checkOf}
 use Rattle.payroll_kept.specs.Records.{BatchTrailerKept, FileTrailerKept}
 use Rattle.payroll_kept.specs.Kept.{Payment, Batch, File, paymentRecords, details, batchRecords, batchesRecords, recordsOf, batchesPayments, paymentsOf, amountOf, BatchKept, BatchesKept, FileKept, Kept}
@@ -34,15 +34,7 @@ amount-row (p ∷ ps) qs = omega (arith, amount-row ps qs)
 -- behind batches: so many records, batches and payments more, of an amount
 abbrev pub done : Running → Open → ℕ → ℕ → ℕ → ℕ → Running
 done st left records batches payments amount =
-    record {
-      stage = BetweenBatches;
-      «is_return» = st .«is_return»;
-      records = st .records + records;
-      batches = st .batches + batches;
-      payments = st .payments + payments;
-      amount = st .amount + amount;
-      batch = left;
-    }
+    moved BetweenBatches (st .records + records) (st .batches + batches) (st .payments + payments) (st .amount + amount) left st
 
 none-more : (n : ℕ) → n ≡ 0 + n
 none-more n = omega arith
@@ -74,15 +66,7 @@ module _ (header : List ℕ) where
       let n : st .records + 1 + d + 1 ≡ st .records + length (batchRecords b) = omega arith in
       let end = behindPlain BatchTrailer full (b .trailer) in
       let same : end ≡ done st (end .batch) (length (batchRecords b)) 1 (length (b .payments)) (amountOf (b .payments)) =
-      λ i. record {
-        stage = BetweenBatches;
-        «is_return» = st .«is_return»;
-        records = n i;
-        batches = st .batches + 1;
-        payments = st .payments + length (b .payments);
-        amount = st .amount + amountOf (b .payments);
-        batch = end .batch;
-      } in
+      λ i. moved BetweenBatches (n i) (st .batches + 1) (st .payments + length (b .payments)) (st .amount + amountOf (b .payments)) (end .batch) st in
       record {
         left = end .batch;
         is =
@@ -105,15 +89,7 @@ module _ (header : List ℕ) where
       let p : st .payments ≡ st .payments + 0 = omega arith in
       let m : st .amount ≡ st .amount + 0 = omega arith in
       let same : st ≡ done st (st .batch) 0 0 0 0 =
-      λ i. record {
-        stage = s i;
-        «is_return» = st .«is_return»;
-        records = n i;
-        batches = b i;
-        payments = p i;
-        amount = m i;
-        batch = st .batch;
-      } in
+      λ i. moved (s i) (n i) (b i) (p i) (m i) (st .batch) st in
       record { left = st .batch; is = ap cap same }
   batches-taken (b ∷ bs) st q s (k, ks) =
       let first = batch-taken b st q s k in
@@ -130,15 +106,7 @@ module _ (header : List ℕ) where
       let same : done next (rest .left) (length (batchesRecords bs)) (length bs) (length (batchesPayments bs)) (amountOf (batchesPayments bs)) ≡
       done st (rest .left) (length (batchRecords b ++ batchesRecords bs)) (length (b ∷ bs)) (length (b .payments ++ batchesPayments bs))
       (amountOf (b .payments ++ batchesPayments bs)) =
-      λ i. record {
-        stage = BetweenBatches;
-        «is_return» = st .«is_return»;
-        records = n i;
-        batches = c i;
-        payments = p i;
-        amount = m i;
-        batch = rest .left;
-      } in
+      λ i. moved BetweenBatches (n i) (c i) (p i) (m i) (rest .left) st in
       record {
         left = rest .left;
         is =
@@ -148,15 +116,7 @@ module _ (header : List ℕ) where
 -- the state that the records of a file lead to
 abbrev ended : File → Open → Running
 ended f left =
-    record {
-      stage = Ended;
-      «is_return» = isReturn (f .header);
-      records = length (recordsOf f);
-      batches = length (f .batches);
-      payments = length (paymentsOf f);
-      amount = amountOf (paymentsOf f);
-      batch = left;
-    }
+    returned (isReturn (f .header)) (moved Ended (length (recordsOf f)) (length (f .batches)) (length (paymentsOf f)) (amountOf (paymentsOf f)) left opened)
 
 record FileTaken (f : File) : Type 0 where
   left : Open
@@ -175,15 +135,10 @@ file-taken f k =
     let last = step FileTrailer full (f .trailer) (record { place = refl; kept = (trailer, subst (λ n. n < 10 ^ 19) (none-more (amountOf (paymentsOf f))) (k .amount)) }) in
     let end = behindPlain FileTrailer full (f .trailer) in
     let same : end ≡ ended f (end .batch) =
-    λ i. record {
-      stage = Ended;
-      «is_return» = isReturn (f .header);
-      records = sym long i;
-      batches = sym (none-more (length (f .batches))) i;
-      payments = sym (none-more (length (paymentsOf f))) i;
-      amount = sym (none-more (amountOf (paymentsOf f))) i;
-      batch = end .batch;
-    } in
+    λ i.
+    returned (isReturn (f .header))
+    (moved Ended (sym long i) (sym (none-more (length (f .batches))) i) (sym (none-more (length (paymentsOf f))) i)
+    (sym (none-more (amountOf (paymentsOf f))) i) (end .batch) opened) in
     record {
       left = end .batch;
       is =

@@ -1,4 +1,4 @@
--- THE FIRST FAULT of a payroll record: the first fault of the one list settles what comes behind the record, so it is refused by that fault or not at all.
+-- THE FIRST FAULT of a payroll record: the first fault of the one list decides what comes behind the record, so it is refused by that fault or not at all.
 use Prim.Native.Nat.{ℕ}
 use mathlib.Core.Path.{_≡_, refl, sym, _∙_, ap, subst}
 use mathlib.Core.List.{List}
@@ -24,9 +24,12 @@ use Rattle.payroll_record.specs.declared.reading.Reading.the-variants.{
 use Rattle.payroll_record.specs.Reading.{readingOf}
 use Rattle.payroll_run.specs.declared.stage.Stage.the-variants.{Refused}
 use Rattle.payroll_run.specs.declared.running.Running.{Running}
-use Rattle.payroll_run.specs.Running.{refusalAt, behindDetailAs, behind, settled, tookOf}
+use Rattle.payroll_run.specs.State.{refusalAt}
+use Rattle.payroll_run.specs.Behind.{behindDetailAs, behind}
+use Rattle.payroll_step.specs.Step.{behindOrRefused, tookOf}
 use Rattle.payroll_kept.specs.FirstFault.{recordRules, Going, RefusedBy, FirstFaultOfRecord}
-use Rattle.payroll_kept.proofs.AtItsPlace.{clash, by-the-list}
+use Rattle.payroll_kept.proofs.Known.{clash}
+use Rattle.payroll_kept.proofs.AtItsPlace.{by-the-list}
 
 -- behind a record nothing is refused
 module _ (st : Running) (going : Going st) where
@@ -56,8 +59,8 @@ names : (st : Running) (cause : Cause) (column : ℕ) (refusal : Refusal) → Re
 names st cause column refusal e = cc
 
 module _ (st : Running) (r : List ℕ) (going : Going st) where
-  by-fault : (fault : Fault) → firstBroken (recordRules st r) ≡ fault → tookOf st (readingOf r) ≡ settled st (readingOf r) fault → FirstFaultOfRecord st r
-  unfolding settled
+  by-fault : (fault : Fault) → firstBroken (recordRules st r) ≡ fault → tookOf st (readingOf r) ≡ behindOrRefused st (readingOf r) fault → FirstFaultOfRecord st r
+  unfolding behindOrRefused
   by-fault Nothing f e =
       let on : Going (tookOf st (readingOf r)) = λ x q. goes-on st going (readingOf r) x (sym (ap (λ next. next .stage) e) ∙ q) in
       record {

@@ -6,19 +6,18 @@ use mathlib.Core.Bool.{false≢true}
 use native.Mathlib.Omega.{arith}
 use lib.ListN.{length, length-append}
 use Rattle.lines.specs.Lines.{withCr, rejoined, cut}
-use Rattle.lines.proofs.Cuts.{cut-is-cut}
+use Rattle.lines.proofs.Cuts.{cut-is-cut, records-are-pieces}
 use Rattle.payroll_record.specs.declared.kind.Kind.{Kind}
 use Rattle.payroll_record.specs.declared.kind.Kind.the-variants.{FileHeader, BatchHeader, SegmentA, SegmentB, SegmentZ, BatchTrailer, FileTrailer}
 use Rattle.payroll_file.specs.declared.answer.Accepted.{Accepted}
 use Rattle.payroll_file.specs.declared.answer.PayrollAnswer.the-variants.{Accepted as accepted}
-use Rattle.payroll_run.specs.Running.{opened}
+use Rattle.payroll_run.specs.State.{opened}
 use Rattle.payroll_file.specs.PayrollFile.{checkOf}
 use Rattle.payroll_kept.specs.Kept.{File, batchesRecords, recordsOf, FileKept, Kept}
 use Rattle.payroll_kept.proofs.Plain.{behindPlain}
 use Rattle.payroll_kept.proofs.Next.{Next}
 use Rattle.payroll_kept.proofs.Steps.{fedOf, step, stepped}
 use Rattle.payroll_kept.proofs.Refused.{EndsAccepted, piece, too-early}
-use Rattle.payroll_kept.proofs.OneLine.{pieces-joined}
 use Rattle.payroll_kept.proofs.Accepting.{file-trailer-at}
 use Rattle.payroll_kept.proofs.Left.{BatchesLeft, says}
 
@@ -72,5 +71,5 @@ accepted-kept bytes a h =
     record {
       file = w .file;
       keeps = w .keeps;
-      is = sym (cut-is-cut bytes .whole) ∙ ap₂ rejoined (w .is) (w .mark) ∙ pieces-joined (recordsOf (w .file)) (26 ∷ []);
+      is = sym (cut-is-cut bytes .whole) ∙ ap₂ rejoined (w .is) (w .mark) ∙ sym (records-are-pieces (recordsOf (w .file)) (26 ∷ []));
     }

@@ -1,6 +1,7 @@
 pub mod Names
 pub mod Rules
 pub mod Plain
+pub mod RulesOfKinds
 pub mod Next
 pub mod Steps
 pub mod Refused
@@ -12,6 +13,8 @@ pub mod Inverting
 pub mod Numbers
 pub mod KeptMeansKept
 pub mod Faults
+pub mod Known
 pub mod AtItsPlace
 pub mod FirstFault
+pub mod Pieces
 pub mod FirstFaultOfFile

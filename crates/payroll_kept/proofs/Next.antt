@@ -1,37 +1,31 @@
 -- A record keeps the rules as the next one of a run exactly where it is found to be of its kind and the rules of its reading there have no fault.
--- Kind by kind: each kind's rules are rows in a row, and each row has its law.
-use Prim.Native.Nat.{ℕ, _+_, _^_, _≤_, _<_}
+-- Kind by kind, by the law of its rules.
+use Prim.Native.Nat.{ℕ, _+_, _^_, _<_}
 use mathlib.Core.Path.{_≡_, refl}
-use mathlib.Core.Logic.{_↔_}
-use mathlib.Core.List.{List, [], _∷_, _++_}
+use mathlib.Core.List.{List}
 use mathlib.Core.Bool.{true}
 use lib.Dec.{lit≤}
-use Rattle.refusal.specs.declared.Cause.the-variants.{KindNotAllowedHere, SequenceWrong, TrailerDisagrees}
-use Rattle.refusal.specs.declared.Fault.{Fault}
 use Rattle.refusal.specs.declared.Fault.the-variants.{Nothing}
-use Rattle.refusal.specs.Rules.{Rule, firstBroken}
 use Rattle.text.specs.Part.{positions}
 use Rattle.payroll_record.specs.declared.kind.Kind.{Kind}
 use Rattle.payroll_record.specs.declared.kind.Kind.the-variants.{FileHeader, BatchHeader, SegmentA, SegmentB, SegmentZ, BatchTrailer, FileTrailer}
 use Rattle.payroll_record.specs.declared.kind.KindFound.the-variants.{Known}
 use Rattle.payroll_record.specs.declared.reading.Reading.the-variants.{Detail as detail}
-use Rattle.payroll_record.specs.Front.{frontRules}
-use Rattle.payroll_record.specs.FileHeader.{headerRules}
-use Rattle.payroll_record.specs.Detail.{paymentRules, detailOf}
-use Rattle.payroll_record.specs.FileTrailer.{trailerFrontRules}
+use Rattle.payroll_record.specs.Detail.{paymentRules}
 use Rattle.payroll_record.specs.Reading.{readAs}
 use Rattle.payroll_record.proofs.Fields.{Writes}
-use Rattle.payroll_record.proofs.NoFault.{NoFault, none-of-one}
+use Rattle.payroll_record.proofs.NoFault.{NoFault}
 use Rattle.payroll_record.proofs.Readings.{Found}
-use Rattle.payroll_record.proofs.RightRecords.{FrontRight, HeaderRight, front-right, header-right, trailer-front-right, payment-right}
+use Rattle.payroll_record.proofs.RightRecords.{FrontRight, payment-right}
 use Rattle.payroll_run.specs.declared.running.Running.{Running}
 use Rattle.payroll_run.specs.Stage.{placed}
-use Rattle.payroll_run.specs.Running.{placeRule, foundRules, runRules}
+use Rattle.payroll_step.specs.Rules.{rulesOf}
 use Rattle.payroll_kept.specs.Fields.{Holds}
-use Rattle.payroll_kept.specs.Records.{Kind as OfKind, HeaderKept, BatchHeaderKept, DetailKept, AKept, BKept, BatchTrailerKept, FileTrailerKept}
+use Rattle.payroll_kept.specs.Records.{RecordOf, HeaderKept, BatchHeaderKept, DetailKept, AKept, BKept, BatchTrailerKept, FileTrailerKept}
 use Rattle.payroll_kept.proofs.Names.{nameOf, SegmentIs, named-kind, kind-named}
-use Rattle.payroll_kept.proofs.Rules.{rows, found, number-holds, at-most-holds, below-holds, day-holds}
-use Rattle.payroll_kept.proofs.Plain.{cap, cap-more, Amounts}
+use Rattle.payroll_kept.proofs.Rules.{found, day-holds}
+use Rattle.payroll_kept.proofs.Plain.{cap, Amounts}
+use Rattle.payroll_kept.proofs.RulesOfKinds.{header-rules, batch-header-rules, detail-rules, nothing-found, batch-trailer-rules, file-trailer-rules}
 
 -- a record of a kind keeps the rules as the next one of a run
 abbrev pub NextKept : Kind → Running → List ℕ → Type 0
@@ -51,66 +45,7 @@ pub record Next (kind : Kind) (st : Running) (r : List ℕ) : Type 0 where
 -- it is found to be of its kind, and the rules have no fault
 pub record NoneBroken (kind : Kind) (st : Running) (r : List ℕ) : Type 0 where
   pub is : Found (Known kind) r
-  pub none : NoFault (runRules (cap st) (readAs kind r))
-
-module _ (st : Running) (r : List ℕ) where
-  -- its place
-  placed-row : {X : Type 0} (kind : Kind) (rules : List Rule) → (NoFault rules ↔ X) →
-      (NoFault (placeRule (cap st) kind ∷ rules) ↔ (placed (st .stage) (st .«is_return») kind ≡ true) × X)
-  placed-row kind rules p = rows (placeRule (cap st) kind ∷ []) rules (none-of-one KindNotAllowedHere 0 (placed (st .stage) (st .«is_return») kind)) p
-
-  -- what is in front, and then rules of the run
-  fronted : {X : Type 0} (rules : List Rule) → (NoFault rules ↔ X) → (NoFault (foundRules (firstBroken (frontRules r)) ++ rules) ↔ FrontRight r × X)
-  fronted rules p = rows (foundRules (firstBroken (frontRules r))) rules (found (frontRules r) (front-right r)) p
-
-  -- the rules of each kind
-  header-rules : NoFault (runRules (cap st) (readAs FileHeader r)) ↔ (placed (st .stage) (st .«is_return») FileHeader ≡ true) × HeaderRight r
-  unfolding runRules readAs
-  header-rules = placed-row FileHeader _ (found (headerRules r) (header-right r))
-
-  batch-header-rules : NoFault (runRules (cap st) (readAs BatchHeader r)) ↔
-      (placed (st .stage) (st .«is_return») BatchHeader ≡ true) × (FrontRight r × (Holds 4 7 (st .batches + 1) r × (st .batches + 1 ≤ 9998)))
-  unfolding runRules readAs
-  batch-header-rules =
-      let next = cap-more (st .batches) 1 in
-      placed-row BatchHeader _
-      (fronted _ (rows _ _ (number-holds SequenceWrong 4 7 r _ (st .batches + 1) next (lit≤ tt)) (at-most-holds SequenceWrong 4 _ (st .batches + 1) next)))
-
-  detail-rules : {X : Type 0} (kind : Kind) (rest : Fault) (paid : ℕ) → (NoFault (foundRules rest) ↔ X) →
-      (NoFault (runRules (cap st) (detail (detailOf kind rest paid r))) ↔
-      (placed (st .stage) (st .«is_return») kind ≡ true) × (FrontRight r × (Holds 4 7 (st .batches) r × (Holds 9 13 (st .batch .details + 1) r × X))))
-  unfolding runRules
-  detail-rules kind rest paid p =
-      placed-row kind _
-      (fronted _
-      (rows _ _ (number-holds SequenceWrong 4 7 r _ (st .batches) refl (lit≤ tt))
-      (rows _ _ (number-holds SequenceWrong 9 13 r _ (st .batch .details + 1) (cap-more (st .batch .details) 1) (lit≤ tt)) p)))
-
-  nothing-found : NoFault (foundRules Nothing) ↔ Unit {0}
-  unfolding firstBroken foundRules
-  nothing-found = (λ e. tt, λ u. refl)
-
-  batch-trailer-rules : NoFault (runRules (cap st) (readAs BatchTrailer r)) ↔
-      (placed (st .stage) (st .«is_return») BatchTrailer ≡ true) ×
-      (FrontRight r × (Holds 4 7 (st .batches) r × (Holds 18 23 (st .batch .records + 1) r × Holds 24 41 (st .batch .sum) r)))
-  unfolding runRules readAs
-  batch-trailer-rules =
-      placed-row BatchTrailer _
-      (fronted _
-      (rows _ _ (number-holds SequenceWrong 4 7 r _ (st .batches) refl (lit≤ tt))
-      (rows _ _ (number-holds TrailerDisagrees 18 23 r _ (st .batch .records + 1) (cap-more (st .batch .records) 1) (lit≤ tt))
-      (number-holds TrailerDisagrees 24 41 r _ (st .batch .sum) refl (lit≤ tt)))))
-
-  file-trailer-rules : NoFault (runRules (cap st) (readAs FileTrailer r)) ↔
-      (placed (st .stage) (st .«is_return») FileTrailer ≡ true) ×
-      ((FrontRight r × Writes (positions 4 7 r) 9999) × (Holds 18 23 (st .batches) r × (Holds 24 29 (st .records + 1) r × (st .amount < 10 ^ 19))))
-  unfolding runRules readAs
-  file-trailer-rules =
-      placed-row FileTrailer _
-      (rows _ _ (found (trailerFrontRules r) (trailer-front-right r))
-      (rows _ _ (number-holds TrailerDisagrees 18 23 r _ (st .batches) refl (lit≤ tt))
-      (rows _ _ (number-holds TrailerDisagrees 24 29 r _ (st .records + 1) (cap-more (st .records) 1) (lit≤ tt))
-      (below-holds TrailerDisagrees 0 _ (st .amount) refl))))
+  pub none : NoFault (rulesOf (cap st) (readAs kind r))
 
 -- what every record has in front, and its kind
 holds-written : {first last n : ℕ} {r : List ℕ} → Holds first last n r → Writes (positions first last r) n
@@ -120,7 +55,7 @@ written-holds : (first last : ℕ) {n : ℕ} {r : List ℕ} → Writes (position
 written-holds first last w = record { digits = w .digits; number = w .value }
 
 module _ (r : List ℕ) {n : ℕ} where
-  of-kind : (kind : Kind) → Found (Known kind) r → FrontRight r → Holds 4 7 n r → OfKind (nameOf kind) n r
+  of-kind : (kind : Kind) → Found (Known kind) r → FrontRight r → Holds 4 7 n r → RecordOf (nameOf kind) n r
   of-kind kind is front number =
       record {
         wide = is .wide;
@@ -130,11 +65,11 @@ module _ (r : List ℕ) {n : ℕ} where
         batch-number = number;
       }
 
-  is-found : (kind : Kind) → SegmentIs kind (positions 14 14 r) → OfKind (nameOf kind) n r → Found (Known kind) r
+  is-found : (kind : Kind) → SegmentIs kind (positions 14 14 r) → RecordOf (nameOf kind) n r → Found (Known kind) r
   is-found kind segment k =
       record { wide = k .wide; kind = named-kind kind (positions 8 8 r) (positions 14 14 r) (record { kind-is = k .named; segment-is = segment }) }
 
-  front-is : (kind : Kind) → OfKind (nameOf kind) n r → FrontRight r
+  front-is : (kind : Kind) → RecordOf (nameOf kind) n r → FrontRight r
   front-is kind k = record { plain = k .plain; bank = holds-written (k .bank) }
 
 segment-of : (kind : Kind) (r : List ℕ) → Found (Known kind) r → SegmentIs kind (positions 14 14 r)
@@ -148,26 +83,26 @@ is-next FileHeader st r b =
     record {
       place = h .0;
       kept = record {
-        kind = of-kind r FileHeader (b .is) (h .1 .front) (written-holds 4 7 (h .1 .batch));
-        code = h .1 .code-known;
-        date = day-holds 144 151 r (b .is .wide) (lit≤ tt) refl .0 (h .1 .date);
+        kind = of-kind r FileHeader (b .is) (h .1 .0 .front) (written-holds 4 7 (h .1 .0 .batch));
+        code = h .1 .0 .code-known;
+        date = day-holds 144 151 r (b .is .wide) (lit≤ tt) refl .0 (h .1 .0 .date);
       };
     }
 is-next BatchHeader st r b =
     let h = batch-header-rules st r .0 (b .none) in
-    record { place = h .0; kept = record { kind = of-kind r BatchHeader (b .is) (h .1 .0) (h .1 .1 .0); at-most = h .1 .1 .1 } }
+    record { place = h .0; kept = record { kind = of-kind r BatchHeader (b .is) (h .1 .0) (h .1 .1 .0 .0); at-most = h .1 .1 .1 } }
 is-next SegmentA st r b =
     let h = detail-rules st r SegmentA _ _ (found (paymentRules r) (payment-right r)) .0 (b .none) in
     record {
       place = h .0;
       kept = record {
         detail = record {
-          kind = of-kind r SegmentA (b .is) (h .1 .0) (h .1 .1 .0);
+          kind = of-kind r SegmentA (b .is) (h .1 .0) (h .1 .1 .0 .0);
           segment-named = segment-of SegmentA r (b .is);
-          detail-number = h .1 .1 .1 .0;
+          detail-number = h .1 .1 .0 .1 .0;
         };
-        date = day-holds 94 101 r (b .is .wide) (lit≤ tt) refl .0 (h .1 .1 .1 .1 .0);
-        amount = h .1 .1 .1 .1 .1;
+        date = day-holds 94 101 r (b .is .wide) (lit≤ tt) refl .0 (h .1 .1 .1 .0);
+        amount = h .1 .1 .1 .1;
       };
     }
 is-next SegmentB st r b =
@@ -175,9 +110,9 @@ is-next SegmentB st r b =
     record {
       place = h .0;
       kept = record {
-        kind = of-kind r SegmentB (b .is) (h .1 .0) (h .1 .1 .0);
+        kind = of-kind r SegmentB (b .is) (h .1 .0) (h .1 .1 .0 .0);
         segment-named = segment-of SegmentB r (b .is);
-        detail-number = h .1 .1 .1 .0;
+        detail-number = h .1 .1 .0 .1 .0;
       };
     }
 is-next SegmentZ st r b =
@@ -185,16 +120,16 @@ is-next SegmentZ st r b =
     record {
       place = h .0;
       kept = record {
-        kind = of-kind r SegmentZ (b .is) (h .1 .0) (h .1 .1 .0);
+        kind = of-kind r SegmentZ (b .is) (h .1 .0) (h .1 .1 .0 .0);
         segment-named = segment-of SegmentZ r (b .is);
-        detail-number = h .1 .1 .1 .0;
+        detail-number = h .1 .1 .0 .1 .0;
       };
     }
 is-next BatchTrailer st r b =
     let h = batch-trailer-rules st r .0 (b .none) in
     record {
       place = h .0;
-      kept = record { kind = of-kind r BatchTrailer (b .is) (h .1 .0) (h .1 .1 .0); counts = h .1 .1 .1 .0; sums = h .1 .1 .1 .1 };
+      kept = record { kind = of-kind r BatchTrailer (b .is) (h .1 .0) (h .1 .1 .0 .0); counts = h .1 .1 .0 .1 .0; sums = h .1 .1 .0 .1 .1 .0 };
     }
 is-next FileTrailer st r b =
     let h = file-trailer-rules st r .0 (b .none) in
@@ -203,10 +138,10 @@ is-next FileTrailer st r b =
       kept = (
         record {
           kind = of-kind r FileTrailer (b .is) (h .1 .0 .0) (written-holds 4 7 (h .1 .0 .1));
-          counts-batches = h .1 .1 .0;
-          counts-records = h .1 .1 .1 .0;
+          counts-batches = h .1 .1 .0 .0;
+          counts-records = h .1 .1 .0 .1 .0;
         },
-        h .1 .1 .1 .1,
+        h .1 .1 .1,
       );
     }
 
@@ -220,19 +155,22 @@ none-broken FileHeader st r n =
       none =
           header-rules st r .1 (
             n .place,
-            record {
-              front = front-is r FileHeader (k .kind);
-              batch = holds-written (k .kind .batch-number);
-              code-known = k .code;
-              date = day-holds 144 151 r (k .kind .wide) (lit≤ tt) refl .1 (k .date);
-            },
+            (
+              record {
+                front = front-is r FileHeader (k .kind);
+                batch = holds-written (k .kind .batch-number);
+                code-known = k .code;
+                date = day-holds 144 151 r (k .kind .wide) (lit≤ tt) refl .1 (k .date);
+              },
+              (tt, tt),
+            ),
           );
     }
 none-broken BatchHeader st r n =
     let k = n .kept in
     record {
       is = is-found r BatchHeader tt (k .kind);
-      none = batch-header-rules st r .1 (n .place, (front-is r BatchHeader (k .kind), (k .kind .batch-number, k .at-most)));
+      none = batch-header-rules st r .1 (n .place, (front-is r BatchHeader (k .kind), ((k .kind .batch-number, tt), k .at-most)));
     }
 none-broken SegmentA st r n =
     let k = n .kept .detail in
@@ -241,7 +179,7 @@ none-broken SegmentA st r n =
       is = is-found r SegmentA (k .segment-named) (k .kind);
       none =
           detail-rules st r SegmentA _ _ (found (paymentRules r) (payment-right r)) .1
-          (n .place, (front-is r SegmentA (k .kind), (k .kind .batch-number, (k .detail-number, (date, n .kept .amount)))));
+          (n .place, (front-is r SegmentA (k .kind), ((k .kind .batch-number, (k .detail-number, tt)), (date, n .kept .amount))));
     }
 none-broken SegmentB st r n =
     let k = n .kept in
@@ -249,7 +187,7 @@ none-broken SegmentB st r n =
       is = is-found r SegmentB (k .segment-named) (k .kind);
       none =
           detail-rules st r SegmentB Nothing 0 (nothing-found st r) .1
-          (n .place, (front-is r SegmentB (k .kind), (k .kind .batch-number, (k .detail-number, tt))));
+          (n .place, (front-is r SegmentB (k .kind), ((k .kind .batch-number, (k .detail-number, tt)), tt)));
     }
 none-broken SegmentZ st r n =
     let k = n .kept in
@@ -257,13 +195,13 @@ none-broken SegmentZ st r n =
       is = is-found r SegmentZ (k .segment-named) (k .kind);
       none =
           detail-rules st r SegmentZ Nothing 0 (nothing-found st r) .1
-          (n .place, (front-is r SegmentZ (k .kind), (k .kind .batch-number, (k .detail-number, tt))));
+          (n .place, (front-is r SegmentZ (k .kind), ((k .kind .batch-number, (k .detail-number, tt)), tt)));
     }
 none-broken BatchTrailer st r n =
     let k = n .kept in
     record {
       is = is-found r BatchTrailer tt (k .kind);
-      none = batch-trailer-rules st r .1 (n .place, (front-is r BatchTrailer (k .kind), (k .kind .batch-number, (k .counts, k .sums))));
+      none = batch-trailer-rules st r .1 (n .place, (front-is r BatchTrailer (k .kind), ((k .kind .batch-number, (k .counts, (k .sums, tt))), tt)));
     }
 none-broken FileTrailer st r n =
     let k = n .kept .0 in
@@ -271,7 +209,7 @@ none-broken FileTrailer st r n =
       is = is-found r FileTrailer tt (k .kind);
       none =
           file-trailer-rules st r .1
-          (n .place, ((front-is r FileTrailer (k .kind), holds-written (k .kind .batch-number)), (k .counts-batches, (k .counts-records, n .kept .1))));
+          (n .place, ((front-is r FileTrailer (k .kind), holds-written (k .kind .batch-number)), ((k .counts-batches, (k .counts-records, tt)), n .kept .1)));
     }
 
 -- an A's amount is digits

@@ -1,7 +1,7 @@
 -- A record that keeps the rules holds no LF, since its bytes are 32 to 126: so the file is cut into its records, and one byte 1A is left.
 use Prim.Native.Nat.{ℕ, _+_}
 use mathlib.Core.Path.{_≡_, refl, _∙_}
-use mathlib.Core.List.{List, [], _∷_, _++_, map, append-nil, append-assoc}
+use mathlib.Core.List.{List, [], _∷_, _++_, map, append-nil}
 use mathlib.Core.Option.{Option, none, some}
 use mathlib.Core.Bool.{true, _&&_}
 use native.Mathlib.Omega.{arith}
@@ -11,7 +11,7 @@ use borrow.Author.Tests.{ne-eqb, leb-true}
 use Rattle.text.specs.declared.alphabet.Alphabet.the-variants.{PlainAscii}
 use Rattle.text.specs.Alphabet.{allowed, holdsOnly}
 use Rattle.text.proofs.Alphabets.{both, both-left, both-right}
-use Rattle.lines.specs.Lines.{lf, inFront, cut, rejoined, joined, noLf, allNoLf, withCr}
+use Rattle.lines.specs.Lines.{lf, inFront, cut, joined, noLf, allNoLf, withCr}
 use Rattle.lines.proofs.Cuts.{cut-joined-then}
 use Rattle.payroll_kept.specs.Kept.{
   Payment,
@@ -93,9 +93,3 @@ file-clear f k =
 pub file-cut : (f : File) → FileKept f → cut (joined (recordsOf f) ++ (26 ∷ [])) ≡ record { pieces = map withCr (recordsOf f); rest = 26 ∷ [] }
 unfolding cut inFront
 file-cut f k = cut-joined-then (recordsOf f) (26 ∷ []) (file-clear f k) ∙ rw append-nil
-
--- and pieces that are records, joined again with that byte, are the file
-pub pieces-joined : (rs : List (List ℕ)) (rest : List ℕ) → rejoined (map withCr rs) rest ≡ joined rs ++ rest
-unfolding joined rejoined
-pieces-joined [] rest = refl
-pieces-joined (r ∷ rs) rest = simp (append-assoc, pieces-joined rs rest)

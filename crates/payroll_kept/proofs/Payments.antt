@@ -16,6 +16,7 @@ use Rattle.payroll_run.specs.declared.stage.Stage.{Stage}
 use Rattle.payroll_run.specs.declared.stage.Stage.the-variants.{Start, BetweenBatches, InBatch, BehindA, BehindB, Ended, Refused}
 use Rattle.payroll_run.specs.declared.running.Running.{Running}
 use Rattle.payroll_run.specs.Stage.{placed}
+use Rattle.payroll_run.specs.State.{moved}
 use Rattle.payroll_file.specs.PayrollFile.{lineOf, linesOf}
 use Rattle.payroll_kept.specs.Records.{DetailKept, ZKept}
 use Rattle.payroll_kept.specs.Kept.{Payment, ifThere, paymentRecords, details, amountAt, amountOf, IfThere, PaymentKept, PaymentsKept}
@@ -54,15 +55,7 @@ after-none st =
     let b : st .batch .records ≡ st .batch .records + 0 = omega arith in
     let d : st .batch .details ≡ st .batch .details + 0 = omega arith in
     let s : st .batch .sum ≡ st .batch .sum + 0 = omega arith in
-    λ i. record {
-      stage = st .stage;
-      «is_return» = st .«is_return»;
-      records = n i;
-      batches = st .batches;
-      payments = p i;
-      amount = a i;
-      batch = record { records = b i; details = d i; sum = s i };
-    }
+    λ i. moved (st .stage) (n i) (st .batches) (p i) (a i) (record { records = b i; details = d i; sum = s i }) st
 
 pub after-after : (st : Running) (s t : Stage) (d n m e o l : ℕ) → after (after st s d n m) t e o l ≡ after st t (d + e) (n + o) (m + l)
 after-after st s t d n m e o l =
@@ -72,15 +65,7 @@ after-after st s t d n m e o l =
     let b : st .batch .records + d + e ≡ st .batch .records + (d + e) = omega arith in
     let k : st .batch .details + d + e ≡ st .batch .details + (d + e) = omega arith in
     let q : st .batch .sum + m + l ≡ st .batch .sum + (m + l) = omega arith in
-    λ i. record {
-      stage = t;
-      «is_return» = st .«is_return»;
-      records = r i;
-      batches = st .batches;
-      payments = p i;
-      amount = a i;
-      batch = record { records = b i; details = k i; sum = q i };
-    }
+    λ i. moved t (r i) (st .batches) (p i) (a i) (record { records = b i; details = k i; sum = q i }) st
 
 -- behind a record that may be there
 abbrev pub behindIf : Stage → Option (List ℕ) → Running → Running

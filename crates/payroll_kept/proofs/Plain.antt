@@ -16,7 +16,8 @@ use Rattle.payroll_run.specs.declared.stage.Stage.{Stage}
 use Rattle.payroll_run.specs.declared.stage.Stage.the-variants.{BetweenBatches, InBatch, BehindA, BehindB, Ended}
 use Rattle.payroll_run.specs.declared.running.Batch.{Batch}
 use Rattle.payroll_run.specs.declared.running.Running.{Running}
-use Rattle.payroll_run.specs.Running.{counted, behindSegment, behindDetailAs, behind}
+use Rattle.payroll_run.specs.State.{newBatch, moved, returned, counted}
+use Rattle.payroll_run.specs.Behind.{behindSegment, behindDetailAs, behind}
 use Rattle.payroll_kept.specs.Fields.{DigitsAt}
 use Rattle.payroll_kept.specs.Kept.{amountAt}
 
@@ -26,15 +27,7 @@ capBatch b = record { records = min (b .records) top; details = min (b .details)
 
 abbrev pub cap : Running → Running
 cap st =
-    record {
-      stage = st .stage;
-      «is_return» = st .«is_return»;
-      records = min (st .records) top;
-      batches = min (st .batches) top;
-      payments = min (st .payments) top;
-      amount = min (st .amount) top;
-      batch = capBatch (st .batch);
-    }
+    moved (st .stage) (min (st .records) top) (min (st .batches) top) (min (st .payments) top) (min (st .amount) top) (capBatch (st .batch)) st
 
 -- a sum that stays at the top is the whole sum, cut there
 pub cap-more : (a b : ℕ) → capped (min a top) b ≡ min (a + b) top
@@ -43,51 +36,19 @@ cap-more a b = omega arith
 -- behind a detail, or several: so many records and payments more, of an amount
 abbrev pub after : Running → Stage → ℕ → ℕ → ℕ → Running
 after st stage records payments amount =
-    record {
-      stage = stage;
-      «is_return» = st .«is_return»;
-      records = st .records + records;
-      batches = st .batches;
-      payments = st .payments + payments;
-      amount = st .amount + amount;
-      batch = record { records = st .batch .records + records; details = st .batch .details + records; sum = st .batch .sum + amount };
-    }
+    moved stage (st .records + records) (st .batches) (st .payments + payments) (st .amount + amount)
+    (record { records = st .batch .records + records; details = st .batch .details + records; sum = st .batch .sum + amount }) st
 
--- behind a trailer
+-- behind a header or a trailer of the file, or a batch's trailer
 abbrev closed : Running → Stage → Running
 closed st stage =
-    record {
-      stage = stage;
-      «is_return» = st .«is_return»;
-      records = st .records + 1;
-      batches = st .batches;
-      payments = st .payments;
-      amount = st .amount;
-      batch = record { records = st .batch .records + 1; details = st .batch .details; sum = st .batch .sum };
-    }
+    moved stage (st .records + 1) (st .batches) (st .payments) (st .amount)
+    (record { records = st .batch .records + 1; details = st .batch .details; sum = st .batch .sum }) st
 
 -- behind a record of each kind
 abbrev pub behindPlain : Kind → Running → List ℕ → Running
-behindPlain FileHeader st r =
-    record {
-      stage = BetweenBatches;
-      «is_return» = isReturn r;
-      records = st .records + 1;
-      batches = st .batches;
-      payments = st .payments;
-      amount = st .amount;
-      batch = record { records = st .batch .records + 1; details = st .batch .details; sum = st .batch .sum };
-    }
-behindPlain BatchHeader st r =
-    record {
-      stage = InBatch;
-      «is_return» = st .«is_return»;
-      records = st .records + 1;
-      batches = st .batches + 1;
-      payments = st .payments;
-      amount = st .amount;
-      batch = record { records = 1; details = 0; sum = 0 };
-    }
+behindPlain FileHeader st r = returned (isReturn r) (closed st BetweenBatches)
+behindPlain BatchHeader st r = moved InBatch (st .records + 1) (st .batches + 1) (st .payments) (st .amount) newBatch st
 behindPlain SegmentA st r = after st BehindA 1 1 (amountAt r)
 behindPlain SegmentB st r = after st BehindB 1 0 0
 behindPlain SegmentZ st r = after st InBatch 1 0 0
@@ -118,57 +79,26 @@ module _ (st : Running) where
       let b = cap-more (st .batch .records) 1 in
       let d = cap-more (st .batch .details) 1 in
       let s = ap (capped (min (st .batch .sum) top)) e ∙ cap-more (st .batch .sum) paid in
-      λ i. record {
-        stage = stage;
-        «is_return» = st .«is_return»;
-        records = n i;
-        batches = min (st .batches) top;
-        payments = p i;
-        amount = a i;
-        batch = record { records = b i; details = d i; sum = s i };
-      }
+      λ i. moved stage (n i) (min (st .batches) top) (p i) (a i) (record { records = b i; details = d i; sum = s i }) (cap st)
 
   closed-is : (stage : Stage) → counted stage (cap st) ≡ cap (closed st stage)
   closed-is stage =
       let n = cap-more (st .records) 1 in
       let b = cap-more (st .batch .records) 1 in
-      λ i. record {
-        stage = stage;
-        «is_return» = st .«is_return»;
-        records = n i;
-        batches = min (st .batches) top;
-        payments = min (st .payments) top;
-        amount = min (st .amount) top;
-        batch = record { records = b i; details = min (st .batch .details) top; sum = min (st .batch .sum) top };
-      }
+      let same = cap st in
+      λ i.
+      moved stage (n i) (same .batches) (same .payments) (same .amount)
+      (record { records = b i; details = same .batch .details; sum = same .batch .sum }) same
 
   -- the run behind a record is the one as whole numbers, cut at the top
   pub behind-is : (kind : Kind) (r : List ℕ) → Amounts kind r → behind (cap st) (readAs kind r) ≡ cap (behindPlain kind st r)
   unfolding behind readAs behindDetailAs
-  behind-is FileHeader r d =
-      let n = cap-more (st .records) 1 in
-      let b = cap-more (st .batch .records) 1 in
-      λ i. record {
-        stage = BetweenBatches;
-        «is_return» = isReturn r;
-        records = n i;
-        batches = min (st .batches) top;
-        payments = min (st .payments) top;
-        amount = min (st .amount) top;
-        batch = record { records = b i; details = min (st .batch .details) top; sum = min (st .batch .sum) top };
-      }
+  behind-is FileHeader r d = ap (returned (isReturn r)) (closed-is BetweenBatches)
   behind-is BatchHeader r d =
       let n = cap-more (st .records) 1 in
       let b = cap-more (st .batches) 1 in
-      λ i. record {
-        stage = InBatch;
-        «is_return» = st .«is_return»;
-        records = n i;
-        batches = b i;
-        payments = min (st .payments) top;
-        amount = min (st .amount) top;
-        batch = record { records = 1; details = 0; sum = 0 };
-      }
+      let same = cap st in
+      λ i. moved InBatch (n i) (b i) (same .payments) (same .amount) newBatch same
   behind-is SegmentA r d = detail-is BehindA 1 (amountOf r) (amountAt r) (amount-is r d)
   behind-is SegmentB r d = detail-is BehindB 0 0 0 refl
   behind-is SegmentZ r d = detail-is InBatch 0 0 0 refl

@@ -19,7 +19,7 @@ use Rattle.payroll_file.specs.declared.answer.Accepted.{Accepted}
 use Rattle.payroll_file.specs.declared.answer.PayrollAnswer.{PayrollAnswer}
 use Rattle.payroll_file.specs.declared.answer.PayrollAnswer.the-variants.{Accepted as accepted, Refused as refused}
 use Rattle.payroll_run.specs.Stage.{placed}
-use Rattle.payroll_run.specs.Running.{tookAt}
+use Rattle.payroll_step.specs.Step.{tookAt}
 use Rattle.payroll_file.specs.PayrollFile.{unendedAt, unendedOf, lineOf, linesOf, endedOf, cutShortOf, endAt, endOf}
 use Rattle.payroll_kept.specs.FirstFault.{Going}
 use Rattle.payroll_kept.proofs.Plain.{cap}

@@ -1,7 +1,7 @@
 -- What it says that rules have no fault, where the run's numbers stay at the top of 64 bits: a field has at most 18 digits, and top has 20,
 -- so it holds a number that stays there exactly where it holds the whole number.
 use Prim.Native.Nat.{ℕ, _-_, _^_, _≤_, _<_, min}
-use mathlib.Core.Path.{_≡_, refl, _∙_}
+use mathlib.Core.Path.{_≡_, sym, _∙_}
 use mathlib.Core.Logic.{_↔_}
 use mathlib.Core.List.{List, [], _∷_, _++_}
 use native.Mathlib.Omega.{arith}
@@ -10,15 +10,14 @@ use lib.ListN.{length, length-take, length-drop}
 use lib.Dec.{leb, ltb, lit<}
 use borrow.Author.Tests.{leb-true, le-leb, ltb-true, lt-ltb}
 use Rattle.refusal.specs.declared.Cause.{Cause}
-use Rattle.refusal.specs.declared.Fault.{Fault}
-use Rattle.refusal.specs.declared.Fault.the-variants.{Nothing, At}
 use Rattle.refusal.specs.Rules.{Rule, ruleAt, firstBroken}
 use Rattle.totals.specs.Sum.{top}
 use Rattle.text.specs.Part.{positions}
 use Rattle.payroll_record.specs.Field.{field, numberIn, numberRules}
 use Rattle.payroll_record.proofs.Fields.{Writes, read, number-below}
 use Rattle.payroll_record.proofs.NoFault.{NoFault, none-in-a-row, none-of-one, field-right, RealDay}
-use Rattle.payroll_run.specs.Running.{foundRules}
+use Rattle.payroll_step.specs.Rules.{foundRules}
+use Rattle.payroll_step.proofs.Found.{found as is-found}
 use Rattle.payroll_kept.specs.Fields.{Holds, DayAt}
 
 -- two rows, one behind the other
@@ -28,15 +27,10 @@ rows a b p q =
     (λ e. (p .0 (both .0 e .0), q .0 (both .0 e .1)), λ h. both .1 (p .1 (h .0), q .1 (h .1)))
 
 -- what reading found
-found-none : (f : Fault) → NoFault (foundRules f) ↔ (f ≡ Nothing)
-unfolding firstBroken foundRules
-found-none Nothing = (λ e. refl, λ e. refl)
-found-none (At cause column) = (λ e. e, λ e. e)
-
 pub found : {X : Type 0} (rules : List Rule) → (NoFault rules ↔ X) → (NoFault (foundRules (firstBroken rules)) ↔ X)
 found rules p =
-    let none = found-none (firstBroken rules) in
-    (λ e. p .0 (none .0 e), λ x. none .1 (p .1 x))
+    let same = is-found (firstBroken rules) in
+    (λ e. p .0 (same ∙ e), λ x. sym same ∙ p .1 x)
 
 -- a number of a field is below 10^18
 below : (first last n : ℕ) (r : List ℕ) → last - (first - 1) ≤ 18 → Writes (positions first last r) n → n < 10 ^ 18

@@ -23,7 +23,8 @@ use Rattle.payroll_run.specs.declared.stage.Stage.{Stage}
 use Rattle.payroll_run.specs.declared.stage.Stage.the-variants.{Start, BetweenBatches, InBatch, BehindA, BehindB, Ended, Refused}
 use Rattle.payroll_run.specs.declared.running.Running.{Running}
 use Rattle.payroll_run.specs.Stage.{placed}
-use Rattle.payroll_run.specs.Running.{runRules, settled, judgedOf, tookAt, tookOf}
+use Rattle.payroll_step.specs.Rules.{rulesOf}
+use Rattle.payroll_step.specs.Step.{behindOrRefused, judgedOf, tookAt, tookOf}
 use Rattle.payroll_kept.specs.FirstFault.{Going}
 use Rattle.payroll_kept.proofs.Plain.{cap, behindPlain, behind-is}
 use Rattle.payroll_kept.proofs.Next.{Next, is-next, none-broken, amounts}
@@ -45,12 +46,12 @@ is-judged (Refused x) t kind st reading p = absurd (false≢true p)
 
 -- a record that may stand there and keeps the rules is taken
 pub step : (kind : Kind) (st : Running) (r : List ℕ) → Next kind st r → fedOf (cap st) r ≡ cap (behindPlain kind st r)
-unfolding settled readFound
+unfolding behindOrRefused readFound
 step kind st r n =
     let b = none-broken kind st r n in
     ap (tookOf (cap st)) (as-found r (Known kind) (b .is)) ∙
     is-judged (st .stage) (st .«is_return») kind (cap st) (readAs kind r) (n .place) ∙
-    ap (settled (cap st) (readAs kind r)) (b .none) ∙
+    ap (behindOrRefused (cap st) (readAs kind r)) (b .none) ∙
     behind-is st kind r (amounts kind st r (n .kept))
 
 -- and no other
@@ -59,15 +60,15 @@ pub record Stepped (st : Running) (r : List ℕ) : Type 0 where
   pub next : Next kind st r
 
 module _ (st : Running) where
-  by-fault : (reading : Reading) (fault : Fault) → Going (settled st reading fault) → fault ≡ Nothing
-  unfolding settled
+  by-fault : (reading : Reading) (fault : Fault) → Going (behindOrRefused st reading fault) → fault ≡ Nothing
+  unfolding behindOrRefused
   by-fault reading Nothing going = refl
   by-fault reading (At cause column) going = absurd (going _ refl)
 
-  judged : (reading : Reading) → Going (judgedOf st reading) → NoFault (runRules st reading)
-  judged reading going = by-fault reading (firstBroken (runRules st reading)) going
+  judged : (reading : Reading) → Going (judgedOf st reading) → NoFault (rulesOf st reading)
+  judged reading going = by-fault reading (firstBroken (rulesOf st reading)) going
 
-  by-stage : (s : Stage) (reading : Reading) → st .stage ≡ s → Going (tookAt s st reading) → NoFault (runRules st reading)
+  by-stage : (s : Stage) (reading : Reading) → st .stage ≡ s → Going (tookAt s st reading) → NoFault (rulesOf st reading)
   unfolding tookAt
   by-stage Start reading q going = judged reading going
   by-stage BetweenBatches reading q going = judged reading going
@@ -78,10 +79,10 @@ module _ (st : Running) where
   by-stage (Refused x) reading q going = absurd (going x q)
 
 pub stepped : (st : Running) (r : List ℕ) → Going (fedOf (cap st) r) → Stepped st r
-unfolding runRules readFound firstBroken
+unfolding rulesOf readFound firstBroken
 stepped st r going = by (eqb (length r) 240) (kindOf r) refl refl (by-stage (cap st) (st .stage) (readingOf r) refl going)
   where
-    by : (w : Bool) (f : KindFound) → eqb (length r) 240 ≡ w → kindOf r ≡ f → NoFault (runRules (cap st) (cond w (readFound f r) wrongWidth)) → Stepped st r
+    by : (w : Bool) (f : KindFound) → eqb (length r) 240 ≡ w → kindOf r ≡ f → NoFault (rulesOf (cap st) (cond w (readFound f r) wrongWidth)) → Stepped st r
     by true (Known kind) wide is none =
         record { kind = kind; next = is-next kind st r (record { is = record { wide = eqb-true (length r) 240 wide; kind = is }; none = none }) }
     by true UnknownKind wide is none = absurd (not-both (sym none))

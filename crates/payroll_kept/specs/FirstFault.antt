@@ -1,21 +1,19 @@
--- THE FIRST FAULT: document 01's rules of a payroll record at its place, in one order, of which a refusal is the first that is broken.
-use Prim.Native.Nat.{ℕ, _+_, _^_}
+-- THE FIRST FAULT: document 01's rules of a payroll record at its place, in one order, of which a refusal is the first that is broken. What the file so far
+-- decides of them is the list that running goes by (`dueOf`, `limitsOf`); here each number that is due is looked for in the bytes.
+use Prim.Native.Nat.{ℕ, _+_}
 use Prim.Native.String.{String}
 use mathlib.Core.Path.{_≡_}
 use mathlib.Core.Logic.{_↔_}
 use mathlib.Core.List.{List, [], _∷_, _++_}
 use mathlib.Core.Bool.{Bool, true, false, not, _||_}
 use lib.ListN.{length}
-use lib.Dec.{leb, ltb, eqb}
+use lib.Dec.{eqb}
 use Rattle.refusal.specs.declared.Cause.{Cause}
 use Rattle.refusal.specs.declared.Cause.the-variants.{
   KindUnknown,
-  KindNotAllowedHere,
   WrongWidth,
   ByteNotAllowed,
   ValueNotAllowed,
-  SequenceWrong,
-  TrailerDisagrees,
   BytesAfterTheEnd,
 }
 use Rattle.refusal.specs.declared.Refusal.{Refusal}
@@ -34,8 +32,9 @@ use Rattle.payroll_record.specs.Reading.{readingOf}
 use Rattle.payroll_run.specs.declared.stage.Stage.{Stage}
 use Rattle.payroll_run.specs.declared.stage.Stage.the-variants.{Start, BetweenBatches, InBatch, BehindA, BehindB, Ended, Refused}
 use Rattle.payroll_run.specs.declared.running.Running.{Running}
-use Rattle.payroll_run.specs.Stage.{placed}
-use Rattle.payroll_run.specs.Running.{nextNumber, tookOf}
+use Rattle.payroll_run.specs.State.{nextNumber}
+use Rattle.payroll_step.specs.Due.{placeRule, Due, dueOf, limitsOf}
+use Rattle.payroll_step.specs.Step.{tookOf}
 use Rattle.payroll_kept.specs.Fields.{numberAt}
 
 -- "then 7 for any byte outside 32 to 126 (column of that byte)", from a column on
@@ -59,28 +58,38 @@ dayRules first last r = digitsRule first last r ∷ ruleAt ValueNotAllowed first
 abbrev pub codeRules : List ℕ → List Rule
 codeRules r = digitsRule 143 143 r ∷ ruleAt ValueNotAllowed 143 (oneByteOf (ascii "12") (positions 143 143 r)) ∷ []
 
+-- each number that is due, in its place
+unfoldable pub dueInBytes : List Due → List ℕ → List Rule
+dueInBytes [] r = []
+dueInBytes (d ∷ ds) r = numberRules (d .cause) (d .first) (d .last) (d .number) r ++ dueInBytes ds r
+
+-- what the record alone decides in front of them: batch "0000 in the header and 9999 in the file trailer (8)"; "Header: 143 is 1 or 2; date 144-151"
+abbrev pub inFrontOfDue : Kind → List ℕ → List Rule
+inFrontOfDue FileHeader r = numberRules ValueNotAllowed 4 7 0 r ++ (codeRules r ++ dayRules 144 151 r)
+inFrontOfDue BatchHeader r = []
+inFrontOfDue SegmentA r = []
+inFrontOfDue SegmentB r = []
+inFrontOfDue SegmentZ r = []
+inFrontOfDue BatchTrailer r = []
+inFrontOfDue FileTrailer r = numberRules ValueNotAllowed 4 7 9999 r
+
+-- and behind them: "Segment A: date 94-101; amount 120-134"
+abbrev pub behindDue : Kind → List ℕ → List Rule
+behindDue FileHeader r = []
+behindDue BatchHeader r = []
+behindDue SegmentA r = dayRules 94 101 r ++ (digitsRule 120 134 r ∷ [])
+behindDue SegmentB r = []
+behindDue SegmentZ r = []
+behindDue BatchTrailer r = []
+behindDue FileTrailer r = []
+
 -- "then its fields", by position: what each kind has behind "Bank 1-3"
 abbrev pub fieldRules : Kind → Running → List ℕ → List Rule
-fieldRules FileHeader st r = numberRules ValueNotAllowed 4 7 0 r ++ (codeRules r ++ dayRules 144 151 r)
-fieldRules BatchHeader st r = numberRules SequenceWrong 4 7 (st .batches + 1) r ++ (ruleAt SequenceWrong 4 (leb (st .batches + 1) 9998) ∷ [])
-fieldRules SegmentA st r =
-    numberRules SequenceWrong 4 7 (st .batches) r ++
-    (numberRules SequenceWrong 9 13 (st .batch .details + 1) r ++ (dayRules 94 101 r ++ (digitsRule 120 134 r ∷ [])))
-fieldRules SegmentB st r = numberRules SequenceWrong 4 7 (st .batches) r ++ (numberRules SequenceWrong 9 13 (st .batch .details + 1) r ++ [])
-fieldRules SegmentZ st r = numberRules SequenceWrong 4 7 (st .batches) r ++ (numberRules SequenceWrong 9 13 (st .batch .details + 1) r ++ [])
-fieldRules BatchTrailer st r =
-    numberRules SequenceWrong 4 7 (st .batches) r ++
-    (numberRules TrailerDisagrees 18 23 (st .batch .records + 1) r ++ numberRules TrailerDisagrees 24 41 (st .batch .sum) r)
-fieldRules FileTrailer st r =
-    numberRules ValueNotAllowed 4 7 9999 r ++
-    (numberRules TrailerDisagrees 18 23 (st .batches) r ++
-    (numberRules TrailerDisagrees 24 29 (st .records + 1) r ++ (ruleAt TrailerDisagrees 0 (ltb (st .amount) (10 ^ 19)) ∷ [])))
+fieldRules kind st r = inFrontOfDue kind r ++ (dueInBytes (dueOf kind st) r ++ (limitsOf kind st ++ behindDue kind r))
 
 -- of a record of a kind: 5, then any byte outside 32 to 126, then bank and fields
 abbrev pub rulesAs : KindFound → Running → List ℕ → List Rule
-rulesAs (Known kind) st r =
-    ruleAt KindNotAllowedHere 0 (placed (st .stage) (st .«is_return») kind) ∷
-    (byteRules 1 r ++ (numberRules ValueNotAllowed 1 3 422 r ++ fieldRules kind st r))
+rulesAs (Known kind) st r = placeRule st kind ∷ (byteRules 1 r ++ (numberRules ValueNotAllowed 1 3 422 r ++ fieldRules kind st r))
 rulesAs UnknownKind st r = []
 rulesAs UnknownSegment st r = []
 

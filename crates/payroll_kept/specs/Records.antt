@@ -13,7 +13,7 @@ use Rattle.text.specs.Part.{positions}
 use Rattle.payroll_kept.specs.Fields.{DigitsAt, Holds, DayAt}
 
 -- every record: "240 bytes", none of them "outside 32 to 126" (and so no LF); "Kind is position 8"; "Bank 1-3 "422"; batch 4-7"
-pub record Kind (name : String) (batch : ℕ) (r : List ℕ) : Type 0 where
+pub record RecordOf (name : String) (batch : ℕ) (r : List ℕ) : Type 0 where
   pub wide : length r ≡ 240
   pub plain : holdsOnly PlainAscii r ≡ true
   pub named : positions 8 8 r ≡ ascii name
@@ -26,18 +26,18 @@ IsReturn header = positions 143 143 header ≡ ascii "2"
 
 -- batch "0000 in the header"; "143 is 1 or 2; date 144-151"
 pub record HeaderKept (r : List ℕ) : Type 0 where
-  pub kind : Kind "0" 0 r
+  pub kind : RecordOf "0" 0 r
   pub code : (positions 143 143 r ≡ ascii "1") ⊎ IsReturn r
   pub date : DayAt 144 151 r
 
 -- "one more than the batches before it in a batch header, at most 9998"
 pub record BatchHeaderKept (batch : ℕ) (r : List ℕ) : Type 0 where
-  pub kind : Kind "1" batch r
+  pub kind : RecordOf "1" batch r
   pub at-most : batch ≤ 9998
 
 -- "a detail's segment is position 14"; "Detail number 9-13"
 pub record DetailKept (segment : String) (batch number : ℕ) (r : List ℕ) : Type 0 where
-  pub kind : Kind "3" batch r
+  pub kind : RecordOf "3" batch r
   pub segment-named : positions 14 14 r ≡ ascii segment
   pub detail-number : Holds 9 13 number r
 
@@ -57,12 +57,12 @@ pub record ZKept (header : List ℕ) (batch number : ℕ) (r : List ℕ) : Type 
 
 -- "18-23 counts its records, header and trailer included; 24-41 sums the amounts of A"
 pub record BatchTrailerKept (batch records sum : ℕ) (r : List ℕ) : Type 0 where
-  pub kind : Kind "5" batch r
+  pub kind : RecordOf "5" batch r
   pub counts : Holds 18 23 records r
   pub sums : Holds 24 41 sum r
 
 -- "9999 in the file trailer"; "18-23 batches; 24-29 all records"
 pub record FileTrailerKept (batches records : ℕ) (r : List ℕ) : Type 0 where
-  pub kind : Kind "9" 9999 r
+  pub kind : RecordOf "9" 9999 r
   pub counts-batches : Holds 18 23 batches r
   pub counts-records : Holds 24 29 records r

@@ -18,8 +18,6 @@ pub struct Detail {
 
 impl Detail {
     pub const NUMBER: Field = Field(9, 13);
-
-    pub const SEGMENT: Field = Field(14, 14);
     // Of segment A.
     pub const DATE: Field = Field(94, 101);
 

@@ -22,6 +22,8 @@ impl Field {
     pub const BATCH: Field = Field(4, 7);
 
     pub const KIND: Field = Field(8, 8);
+    // A detail's segment, which is a part of its kind.
+    pub const SEGMENT: Field = Field(14, 14);
 
     // The part of a record that is this field, as far as the record goes.
     pub fn part(self, bytes: &[u8]) -> &[u8]

@@ -1,7 +1,6 @@
 // The kinds of record: "Kind is position 8", and "a detail's segment is position 14".
 ghost use mathlib.Core.Path.{_≡_};
 ghost use Rattle.payroll_record.specs.Kind.{segmentOf, kindOf};
-use crate::detail::Detail;
 use crate::field::Field;
 
 pub enum Kind {
@@ -25,7 +24,7 @@ pub enum KindFound {
 fn segment_of(bytes: &[u8]) -> KindFound
     ensures { λ r. ⌜ r ≡ segmentOf (now (bytes .entry)) ⌝ }
 {
-    let segment = Detail::SEGMENT.part(bytes);
+    let segment = Field::SEGMENT.part(bytes);
     if text::literal::equals(segment, b"A") {
         return KindFound::Known(Kind::SegmentA);
     }

@@ -1,2 +1,3 @@
 pub mod Stage
-pub mod Running
+pub mod State
+pub mod Behind

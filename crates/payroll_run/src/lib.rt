@@ -1,3 +1,4 @@
-// The running state of a payroll file: it takes what reading answered of one record after the other, and knows places, numbers and sums.
+// The running state of a payroll file: how far it has come, its counts and sums, and what each record that keeps the rules makes of it.
+pub mod behind;
 pub mod running;
 pub mod stage;

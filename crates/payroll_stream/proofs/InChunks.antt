@@ -1,5 +1,5 @@
 -- A payroll file in chunks is the file read whole. A stream is a run over pieces (`chunks`), and neither taking a line nor the end looks further into
--- what is held than what is kept of it.
+-- what is held than what is held of it.
 use Prim.Native.Nat.{ℕ}
 use mathlib.Core.Path.{_≡_, refl, _∙_, ap}
 use mathlib.Core.List.{List, [], _∷_, foldl}
@@ -8,7 +8,7 @@ use Rattle.chunks.specs.Chunks.{Run, startOf, ranOver, joinedChunks}
 use Rattle.chunks.proofs.Held.{held-back}
 use Rattle.chunks.proofs.Streams.{in-chunks}
 use Rattle.payroll_run.specs.declared.running.Running.{Running}
-use Rattle.payroll_run.specs.Running.{opened}
+use Rattle.payroll_run.specs.State.{opened}
 use Rattle.payroll_file.specs.PayrollFile.{lineOf, linesOf, endOf, checkOf}
 use Rattle.payroll_stream.specs.declared.Progress.the-variants.{Answered}
 use Rattle.payroll_stream.specs.Stream.{goingOn, openOf, takenAt, takenOf, endedAt, endedOf, answerAt, answerOf}

@@ -1,6 +1,6 @@
--- Neither taking a line nor the end looks further into it than what is kept: a record of more than 240 bytes has the wrong width, and what is left
+-- Neither taking a line nor the end looks further into it than what is held: a record of more than 240 bytes has the wrong width, and what is left
 -- behind the file trailer is one byte or wrong.
-use Prim.Native.Nat.{ℕ, _≤_, _<_, min}
+use Prim.Native.Nat.{ℕ, _≤_, _<_}
 use mathlib.Core.Path.{_≡_, refl, sym, _∙_, ap, ap₂}
 use mathlib.Core.List.{List, [], _∷_}
 use mathlib.Core.Bool.{Bool, true, false, cond, _&&_}
@@ -11,8 +11,8 @@ use lib.Dec.{eqb, leb}
 use borrow.Author.Tests.{leb-true, leb-false, ne-eqb}
 use Rattle.text.specs.Literal.{sameBytes}
 use Rattle.lines.specs.Lines.{endsInCr, withoutLast}
-use Rattle.chunks.specs.Unfinished.{keptOf}
-use Rattle.chunks.proofs.Kept.{kept-all, kept-exactly, kept-ends, kept-record}
+use Rattle.chunks.specs.Unfinished.{clipped}
+use Rattle.chunks.proofs.Clipped.{clipped-all, clipped-exactly, clipped-ends, clipped-record}
 use Rattle.chunks.proofs.Streams.{LooksNoFurther}
 use Rattle.payroll_record.specs.declared.reading.Reading.the-variants.{WrongWidth}
 use Rattle.payroll_record.specs.Reading.{readFound, readingOf}
@@ -20,7 +20,7 @@ use Rattle.payroll_record.specs.Kind.{kindOf}
 use Rattle.payroll_run.specs.declared.stage.Stage.{Stage}
 use Rattle.payroll_run.specs.declared.stage.Stage.the-variants.{Start, BetweenBatches, InBatch, BehindA, BehindB, Ended, Refused}
 use Rattle.payroll_run.specs.declared.running.Running.{Running}
-use Rattle.payroll_run.specs.Running.{tookOf}
+use Rattle.payroll_step.specs.Step.{tookOf}
 use Rattle.payroll_file.specs.PayrollFile.{lineOf, unendedOf, cutShortOf, endedOf, endAt, endOf}
 
 too-wide : (r : List ℕ) → 240 < length r → readingOf r ≡ WrongWidth
@@ -37,7 +37,7 @@ front-reading r = one (leb (length r) 241) refl
 
 pub no-further : LooksNoFurther lineOf
 no-further st p =
-    ap₂ (λ (ends : Bool) (r : List ℕ). cond ends (tookOf st (readingOf r)) (unendedOf st)) (kept-ends p) (kept-record p) ∙
+    ap₂ (λ (ends : Bool) (r : List ℕ). cond ends (tookOf st (readingOf r)) (unendedOf st)) (clipped-ends p) (clipped-record p) ∙
     ap (λ reading. cond (endsInCr p) (tookOf st reading) (unendedOf st)) (front-reading (withoutLast p))
 
 -- two bytes or more are left: which they are does not matter
@@ -66,10 +66,10 @@ two-left (Refused r) st (b ∷ c ∷ l) (d ∷ e ∷ m) h k = refl
 pub end-no-further : LooksNoFurther endOf
 end-no-further st p = one (leb (length p) 242) refl
   where
-    one : (t : Bool) → leb (length p) 242 ≡ t → endOf st (keptOf p) ≡ endOf st p
+    one : (t : Bool) → leb (length p) 242 ≡ t → endOf st (clipped p) ≡ endOf st p
     one true l =
         let m : length p ≤ 242 = leb-true (length p) 242 l in
-        ap (endOf st) (kept-all [] p (omega arith))
+        ap (endOf st) (clipped-all [] p (omega arith))
     one false l =
         let m : 242 < length p = leb-false (length p) 242 l in
-        two-left (st .stage) st (keptOf p) p (omega (arith, kept-exactly [] p (omega arith))) (omega arith)
+        two-left (st .stage) st (clipped p) p (omega (arith, clipped-exactly [] p (omega arith))) (omega arith)

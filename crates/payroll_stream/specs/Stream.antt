@@ -1,4 +1,4 @@
--- A payroll file in chunks: a state, what is kept of the record that has not ended, and the answer once there is one.
+-- A payroll file in chunks: a state, what is held of the record that has not ended, and the answer once there is one.
 use Prim.Native.Nat.{ℕ}
 use mathlib.Core.List.{List, [], _∷_}
 use Rattle.refusal.specs.declared.Cause.the-variants.{BytesAfterTheEnd}
@@ -11,7 +11,7 @@ use Rattle.payroll_run.specs.declared.stage.Stage.the-variants.{Start, BetweenB
 use Rattle.payroll_run.specs.declared.running.Running.{Running}
 use Rattle.payroll_file.specs.declared.answer.PayrollAnswer.{PayrollAnswer}
 use Rattle.payroll_file.specs.declared.answer.PayrollAnswer.the-variants.{Accepted, Refused as refused}
-use Rattle.payroll_run.specs.Running.{opened, refusalAt}
+use Rattle.payroll_run.specs.State.{opened, refusalAt}
 use Rattle.payroll_file.specs.PayrollFile.{lineOf, endOf}
 use Rattle.payroll_stream.specs.declared.Progress.{Progress}
 use Rattle.payroll_stream.specs.declared.Progress.the-variants.{GoingOn, Answered}

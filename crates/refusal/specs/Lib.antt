@@ -1,3 +1,4 @@
 pub mod RefusalList
 pub mod Fault
 pub mod Rules
+pub mod Nowhere

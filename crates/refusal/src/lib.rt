@@ -2,6 +2,7 @@
 ghost use mathlib.Core.Path.{_≡_};
 ghost use Rattle.refusal.specs.RefusalList.{numberOf};
 ghost use Rattle.refusal.specs.Fault.{earlierOf, ruleOf};
+ghost use Rattle.refusal.specs.Nowhere.{nowhere};
 
 // Why something is refused: a variant for each row of the refusal list, in its order.
 pub enum Cause {
@@ -29,6 +30,19 @@ pub struct Refusal {
     pub cause: Cause,
     pub record: u64,
     pub column: u64,
+}
+
+impl Refusal {
+    // A refusal of no record and no column: what is asked is refused as a whole.
+    pub fn nowhere(cause: Cause) -> Refusal
+        ensures { λ r. ⌜ r ≡ nowhere cause ⌝ }
+    {
+        Refusal {
+            cause,
+            record: 0,
+            column: 0,
+        }
+    }
 }
 
 // What judging one record finds: no fault, or a cause and its column.

@@ -39,7 +39,7 @@ fn main() {
         mistake::tell_usage(b"sheet EDITION FILE OUT, or sheet FILE");
         return;
     }
-    let mut word = [0u8; argument::LONGEST];
+    let mut word = argument::room();
     match argument::edition_at(1, &mut word) {
         Edition::NoNumber => mistake::tell(Mistake::EditionNoNumber),
         Edition::Of(edition) => write_named(edition),

@@ -12,7 +12,8 @@ use lib.Dec.{lit<}
 use borrow.Author.Tests.{le-leb}
 use Rattle.text.specs.declared.alphabet.Alphabet.the-variants.{Digits}
 use Rattle.text.specs.Alphabet.{allowed, holdsOnly}
-use Rattle.text.specs.Number.{valueFrom, valueOf, weighed, zerosWeighed, valueIfDigits}
+use Rattle.text.specs.Number.{valueFrom, valueOf}
+use Rattle.text.specs.Weighed.{weighed, zerosWeighed, valueIfDigits}
 use Rattle.text.proofs.Alphabets.{both-left, both-right, digit-low}
 
 -- one more byte, and none left

@@ -1,4 +1,5 @@
 pub mod Alphabet
 pub mod Number
+pub mod Weighed
 pub mod Literal
 pub mod Part

@@ -27,16 +27,3 @@ abbrev pub plainNumber : Number → ℕ
 plainNumber (Of n) = n
 plainNumber NotDigits = 0
 plainNumber TooLong = 0
-
--- bytes as digits of any size, behind those that came to n; and as many zeros, which are byte 48
-unfoldable pub weighed : ℕ → List ℕ → ℕ
-weighed n [] = n
-weighed n (b ∷ s) = weighed (n * 10 + b) s
-
-unfoldable pub zerosWeighed : ℕ → List ℕ → ℕ
-zerosWeighed n [] = n
-zerosWeighed n (b ∷ s) = zerosWeighed (n * 10 + 48) s
-
--- the value that a part writes if it is digits, up to 17
-abbrev pub valueIfDigits : List ℕ → ℕ
-valueIfDigits s = cond (leb (length s) 17) (weighed 0 s - zerosWeighed 0 s) 0

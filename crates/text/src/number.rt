@@ -4,7 +4,8 @@ ghost use mathlib.Core.Bool.{true};
 ghost use Prim.Native.Nat.{_≤_};
 ghost use lib.ListN.{length};
 ghost use Rattle.text.specs.Alphabet.{holdsOnly};
-ghost use Rattle.text.specs.Number.{valueOf, numberOf, plainNumber, valueIfDigits};
+ghost use Rattle.text.specs.Number.{valueOf, numberOf, plainNumber};
+ghost use Rattle.text.specs.Weighed.{valueIfDigits};
 use crate::alphabet::Alphabet;
 
 // What a part says when it is read as a number.

@@ -1,91 +1,16 @@
--- `card_file::no_line_end` meets its contract: each arm's equation picks the case of `unendedAt`.
-use mathlib.Core.Path.{_≡_, refl, sym, _∙_, ap}
-use borrow.Author.Needs.{needs}
-use Rattle.card_run.specs.declared.stage.Stage.{Stage}
-use Rattle.card_run.specs.declared.running.Running.{Running}
+-- `card_file::no_line_end` meets its contract: whether a record is expected picks the case of `unendedAt`.
+use mathlib.Core.Path.{sym, _∙_}
 use Rattle.card_file.specs.CardFile.{unendedAt}
 use Rattle.card_file.proofs.no_line_end.Statement.{statement}
 use Rattle.card_file.proofs.no_line_end.Tie as tie
 
-enum-told : tie.Need-enum-told
-enum-told c = search needs
-
-enum-told-2 : tie.Need-enum-told-2
-enum-told-2 c = search needs
-
-refused-requires : tie.Need-refused-requires
-refused-requires c κs = search needs
-
-enum-told-3 : tie.Need-enum-told-3
-enum-told-3 c = search needs
-
-refused-requires-2 : tie.Need-refused-requires-2
-refused-requires-2 c κs = search needs
-
-enum-told-4 : tie.Need-enum-told-4
-enum-told-4 c = search needs
-
-refused-requires-3 : tie.Need-refused-requires-3
-refused-requires-3 c κs = search needs
-
-enum-told-5 : tie.Need-enum-told-5
-enum-told-5 c = search needs
-
-refused-requires-4 : tie.Need-refused-requires-4
-refused-requires-4 c κs = search needs
-
-enum-told-6 : tie.Need-enum-told-6
-enum-told-6 c = search needs
-
-refused-requires-5 : tie.Need-refused-requires-5
-refused-requires-5 c κs = search needs
-
--- what the arm of a stage answers is what its case says
-arm : (st r : Running) (stage : Stage) → r ≡ unendedAt stage st → st .stage ≡ stage → r ≡ unendedAt (st .stage) st
-arm st r stage e told = e ∙ ap (λ s. unendedAt s st) (sym told)
-
 returns : tie.Need-returns
 unfolding unendedAt
-returns c = arm _ _ _ refl (c .enum-told .given .1)
+returns c = c .refused .ensures ∙ sym (rw (sym (c .before .before .is-open .ensures) ∙ c .before .if1 .taken))
 
 returns-2 : tie.Need-returns-2
 unfolding unendedAt
-returns-2 c = arm _ _ _ (c .refused .ensures) (c .before .enum-told2 .given .1)
-
-returns-3 : tie.Need-returns-3
-unfolding unendedAt
-returns-3 c = arm _ _ _ (c .refused2 .ensures) (c .before .enum-told3 .given .1)
-
-returns-4 : tie.Need-returns-4
-unfolding unendedAt
-returns-4 c = arm _ _ _ (c .refused3 .ensures) (c .before .enum-told4 .given .1)
-
-returns-5 : tie.Need-returns-5
-unfolding unendedAt
-returns-5 c = arm _ _ _ (c .refused4 .ensures) (c .before .enum-told5 .given .1)
-
-returns-6 : tie.Need-returns-6
-unfolding unendedAt
-returns-6 c = arm _ _ _ (c .refused5 .ensures) (c .before .enum-told6 .given .1)
+returns-2 c = c .late .ensures ∙ sym (rw (sym (c .before .before .is-open .ensures) ∙ c .before .if1 .left))
 
 pub no-line-end-spec : {M : Type 1} → statement M
-no-line-end-spec =
-    tie.close
-    (tie.spec
-    enum-told
-    enum-told-2
-    refused-requires
-    enum-told-3
-    refused-requires-2
-    enum-told-4
-    refused-requires-3
-    enum-told-5
-    refused-requires-4
-    enum-told-6
-    refused-requires-5
-    returns
-    returns-2
-    returns-3
-    returns-4
-    returns-5
-    returns-6)
+no-line-end-spec = tie.close (tie.spec (λ c κs. tt) (λ c κs. tt) returns (λ c κs. tt) returns-2)

@@ -1,7 +1,7 @@
 -- `card_file::take_line` meets its contract: the test for CR picks the case of `lineOf`.
 use mathlib.Core.Path.{sym, _∙_, ap}
 use borrow.Author.Needs.{needs}
-use Rattle.card_run.specs.Running.{fedOf}
+use Rattle.card_file.specs.Feeding.{fedOf}
 use Rattle.card_file.proofs.Steps.{record-line, other-line}
 use Rattle.card_file.proofs.take_line.Statement.{statement}
 use Rattle.card_file.proofs.take_line.Tie as tie

@@ -2,7 +2,7 @@
 use Prim.Native.Nat.{ℕ}
 use mathlib.Core.Path.{_∙_, ap}
 use mathlib.Core.List.{List}
-use Rattle.text.specs.Number.{valueIfDigits}
+use Rattle.text.specs.Weighed.{valueIfDigits}
 use borrow.Author.Needs.{needs}
 use Rattle.card_quick.proofs.value.Statement.{statement}
 use Rattle.card_quick.proofs.value.Tie as tie

@@ -5,8 +5,8 @@ use borrow.Author.Needs.{needs}
 use Rattle.card_sheet.proofs.sheet_of.Statement.{statement}
 use Rattle.card_sheet.proofs.sheet_of.Tie as tie
 
-answer-of-requires : tie.Need-answer-of-requires
-answer-of-requires c κs = search needs
+check-with-room-requires : tie.Need-check-with-room-requires
+check-with-room-requires c κs = search needs
 
 enum-told : tie.Need-enum-told
 enum-told c = search needs
@@ -24,10 +24,10 @@ write-requires : tie.Need-write-requires
 write-requires c κs = search needs
 
 returns : tie.Need-returns
-returns c = going-on _ _ _ (c .before .before .answer-of .ensures) (c .enum-told .given .1)
+returns c = going-on _ _ _ (c .before .before .check-with-room .ensures) (c .enum-told .given .1)
 
 returns-2 : tie.Need-returns-2
-returns-2 c = refused _ _ _ (c .before .before .answer-of .ensures) _ (c .enum-told2 .given .1)
+returns-2 c = refused _ _ _ (c .before .before .check-with-room .ensures) _ (c .enum-told2 .given .1)
 
 same-length : tie.Need-same-length
 same-length c = search needs
@@ -36,13 +36,13 @@ returns-3 : tie.Need-returns-3
 returns-3 c =
     let answered = c .before .before .before .before .before .before .before .before in
     let told = c .before .before .before .before .before .before .answer .given .1 in
-    accepted _ _ _ (sym told ∙ answered .answer-of .ensures) _ refl (c .before .before .before .before .sheet-from .ensures) (c .before .before .write .ensures .leaves)
+    accepted _ _ _ (sym told ∙ answered .check-with-room .ensures) _ refl (c .before .before .before .before .sheet-from .ensures) (c .before .before .write .ensures .leaves)
 
 pub sheet-of-spec : {M : Type 1} → statement M
 sheet-of-spec =
     tie.close
     (tie.spec
-    answer-of-requires
+    check-with-room-requires
     enum-told
     enum-told-2
     enum-known-answer

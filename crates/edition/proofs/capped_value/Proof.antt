@@ -12,7 +12,7 @@ use Rattle.text.specs.declared.alphabet.Alphabet.the-variants.{Digits}
 use Rattle.text.specs.Alphabet.{allowed}
 use Rattle.text.proofs.Alphabets.{at-each, digit-low, digit-high}
 use Rattle.text.proofs.Numbers.{digit-more, digits-end}
-use Rattle.edition.specs.Edition.{top}
+use Rattle.totals.specs.Sum.{top}
 use Rattle.edition.proofs.Values.{over}
 use mathlib.Core.Bool.{true}
 use denote.Ref.{now}

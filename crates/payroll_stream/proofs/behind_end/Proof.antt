@@ -1,5 +1,5 @@
 -- `payroll_stream::behind_end` meets its contract: each arm's equation picks the case of `behindEnd`.
-use mathlib.Core.Path.{_≡_, refl, sym, _∙_, ap}
+use mathlib.Core.Path.{sym, _∙_, ap}
 use borrow.Author.Needs.{needs}
 use Rattle.payroll_file.specs.declared.answer.PayrollAnswer.the-variants.{Refused}
 use Rattle.payroll_stream.specs.Stream.{behindEnd}

@@ -1,53 +1,57 @@
--- `card_record::card_part::card_part` meets its contract: the two tests are those of the row of CV.
-use borrow.Author.Tests.{not-true, not-false, eq-eqb, ne-eqb}
+-- `card_record::card_part::card_part` meets its contract: whether the kind is known, has a card, and is as wide as the record picks the case of
+-- `cardPartFound`.
+use mathlib.Core.Path.{sym, _∙_}
+use borrow.Author.Tests.{eq-eqb, ne-eqb}
 use borrow.Author.Needs.{needs}
-use Rattle.card_content.proofs.Told.{compared}
-use Rattle.card_record.specs.CardPart.{cardPartIn}
+use Rattle.refusal.proofs.Rows.{told}
+use Rattle.card_record.specs.CardPart.{cardPartFound}
+use Rattle.card_record.proofs.CardParts.{no-card}
 use Rattle.card_record.proofs.card_part.card_part.Statement.{statement}
 use Rattle.card_record.proofs.card_part.card_part.Tie as tie
 
-part-of-requires : tie.Need-part-of-requires
-part-of-requires c κs = search needs
-
-slice-aggregate-equals : tie.Need-slice-aggregate-equals
-slice-aggregate-equals c = search needs
-
-equals-requires : tie.Need-equals-requires
-equals-requires c κs = search needs
-
 returns : tie.Need-returns
-unfolding cardPartIn
-returns c = rw (compared _ (c .before .equals .ensures) (c .before .before .before .part-of .ensures .holds) (not-true _ (c .if1 .taken)))
+unfolding cardPartFound
+returns c = rw (told (c .before .before .kind-of .ensures) (c .enum-told .given .1))
 
 returns-2 : tie.Need-returns-2
-unfolding cardPartIn
 returns-2 c =
-    let c1 = c .before in
-    rw (
-      compared _ (c1 .before .equals .ensures) (c1 .before .before .before .part-of .ensures .holds) (not-false _ (c1 .if1 .left)),
-      ne-eqb _ _ (c .if2 .taken),
-    )
-
-sub-t8 : tie.Need-sub-t8
-sub-t8 c = search needs
+    let card = c .before .before in
+    let kind = card .before .before in
+    sym (no-card _ _ (told (kind .before .before .kind-of .ensures) (kind .kind .given .1)) (told (card .card-of .ensures) (c .enum-told2 .given .1)))
 
 returns-3 : tie.Need-returns-3
-unfolding cardPartIn
+unfolding cardPartFound
 returns-3 c =
-    let c1 = c .before .before in
+    let kind = c .before .before .before .before .before .before .before in
     rw (
-      compared _ (c1 .before .equals .ensures) (c1 .before .before .before .part-of .ensures .holds) (not-false _ (c1 .if1 .left)),
-      eq-eqb _ _ (c .before .if2 .left),
+      told (kind .before .before .kind-of .ensures) (kind .kind .given .1),
+      ne-eqb _ _ (λ wide. c .if1 .taken (wide ∙ sym (c .before .width .ensures))),
     )
+
+returns-4 : tie.Need-returns-4
+unfolding cardPartFound
+returns-4 c =
+    let from = c .before .before .before in
+    let card = from .before .before in
+    let kind = card .before .before in
+    rw (
+      told (kind .before .before .kind-of .ensures) (kind .kind .given .1),
+      eq-eqb _ _ (c .if1 .left ∙ c .before .width .ensures),
+    )
+    (sym (told (card .card-of .ensures) (from .from .given .1)))
 
 pub card-part-spec : {M : Type 1} → statement M
 card-part-spec =
     tie.close
     (tie.spec
-    part-of-requires
-    slice-aggregate-equals
-    equals-requires
+    (λ c κs. search needs)
+    (λ c. search needs)
+    (λ c. search needs)
     returns
+    (λ c κs. search needs)
+    (λ c. search needs)
+    (λ c. search needs)
     returns-2
-    sub-t8
-    returns-3)
+    (λ c κs. search needs)
+    returns-3
+    returns-4)

@@ -1,7 +1,7 @@
 -- `cases::row::card_row` meets its contract, in each case.
 use mathlib.Core.Path.{sym, ap, _∙_}
 use Rattle.card_run.specs.Answer.{rowOf}
-use Rattle.cases.specs.Row.{cardNumbers}
+use Rattle.cases.specs.CardNumbers.{cardNumbers}
 use borrow.Author.Needs.{needs}
 use Rattle.cases.proofs.row.card_row.Statement.{statement}
 use Rattle.cases.proofs.row.card_row.Tie as tie

@@ -7,7 +7,7 @@ use borrow.Author.Needs.{needs}
 use denote.Ref.{now}
 use lib.ListN.{length, drop, length-set}
 use Rattle.chunks.specs.declared.Unfinished.{Unfinished}
-use Rattle.chunks.specs.Unfinished.{keptWith, heldBy, holding}
+use Rattle.chunks.specs.Unfinished.{clippedWith, heldBy, holding}
 use Rattle.chunks.proofs.Held.{Clean, put-next, all-put}
 use Rattle.chunks.proofs.Unfinished.extended.Statement.{statement}
 use Rattle.chunks.proofs.Unfinished.extended.Tie as tie
@@ -15,7 +15,7 @@ use Rattle.chunks.proofs.Unfinished.extended.Tie as tie
 abbrev Inv-loop : tie.InvT-loop
 Inv-loop part bytes₀ length₀ i₀ bytes n i =
     (i ≤ length part) × Clean (record { bytes = bytes; length = n }) × (length bytes ≡ 242) ×
-    (keptWith (heldBy (record { bytes = bytes; length = n })) (drop i part) ≡ keptWith (heldBy (record { bytes = bytes₀; length = length₀ })) part)
+    (clippedWith (heldBy (record { bytes = bytes; length = n })) (drop i part) ≡ clippedWith (heldBy (record { bytes = bytes₀; length = length₀ })) part)
 
 abbrev μ-loop : tie.MeasureT-loop
 μ-loop part bytes₀ length₀ i₀ bytes n i = length part - i

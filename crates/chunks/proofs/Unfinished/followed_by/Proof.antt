@@ -5,8 +5,8 @@ use Prim.Native.Nat.{ℕ}
 use borrow.Author.Needs.{needs}
 use denote.Ref.{now}
 use lib.ListN.{length, take}
-use Rattle.chunks.specs.Unfinished.{keptWith, keptOf, heldBy, holding}
-use Rattle.chunks.proofs.Kept.{kept-append}
+use Rattle.chunks.specs.Unfinished.{clippedWith, clipped, heldBy, holding}
+use Rattle.chunks.proofs.Clipped.{clipped-append}
 use Rattle.chunks.proofs.Held.{held-part, held-inside, clean}
 use Rattle.chunks.proofs.Unfinished.followed_by.Statement.{statement}
 use Rattle.chunks.proofs.Unfinished.followed_by.Tie as tie
@@ -29,16 +29,16 @@ extended-requires c κs = clean [] (c .before .none .ensures) .1
 extended-requires-2 : tie.Need-extended-requires-2
 extended-requires-2 c κs =
     let self = c .before .before .before .before .before .before .args .self in
-    clean (keptWith (heldBy (c .before .before .none .result)) (take (c .before .before .before .size .result) (self .bytes))) (c .extended .ensures) .1
+    clean (clippedWith (heldBy (c .before .before .none .result)) (take (c .before .before .before .size .result) (self .bytes))) (c .extended .ensures) .1
 
 returns : tie.Need-returns
 returns c =
     let self = c .before .before .before .before .before .before .before .args .self in
     let part = now (c .before .before .before .before .before .before .before .args .part) in
-    let first : heldBy (c .before .extended .result) ≡ keptOf (heldBy self) =
+    let first : heldBy (c .before .extended .result) ≡ clipped (heldBy self) =
     clean _ (c .before .extended .ensures) .0 ∙
-    ap₂ keptWith (clean [] (c .before .before .before .none .ensures) .0) (held-part self (c .before .before .before .before .size .ensures)) in
-    c .extended2 .ensures ∙ ap holding (ap (λ (h : List ℕ). keptWith h part) first ∙ sym (kept-append [] (heldBy self) part))
+    ap₂ clippedWith (clean [] (c .before .before .before .none .ensures) .0) (held-part self (c .before .before .before .before .size .ensures)) in
+    c .extended2 .ensures ∙ ap holding (ap (λ (h : List ℕ). clippedWith h part) first ∙ sym (clipped-append [] (heldBy self) part))
 
 pub followed-by-spec : {M : Type 1} → statement M
 followed-by-spec =

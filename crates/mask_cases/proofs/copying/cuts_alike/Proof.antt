@@ -2,7 +2,7 @@
 use Prim.Native.Nat.{ℕ, _≤_, _+_, _-_}
 use mathlib.Core.Path.{_≡_, refl, sym, ap, _∙_}
 use mathlib.Core.Logic.{⊎-elim}
-use mathlib.Core.Bool.{Bool, true, false, cond}
+use mathlib.Core.Bool.{Bool, cond}
 use native.Mathlib.Omega.{arith}
 use lib.ListN.{length}
 use lib.Dec.{eqb}
@@ -10,7 +10,7 @@ use borrow.Author.Needs.{needs}
 use borrow.Author.Tests.{eq-eqb, ne-eqb}
 use Rattle.cases.specs.Hash.{hashFrom}
 use Rattle.mask_cases.specs.Copying.{putInto}
-use Rattle.mask_cases.proofs.Puts.{one-more, none-more}
+use Rattle.cases.proofs.Counted.{none-yet, one-more, no-more}
 use Rattle.mask_cases.proofs.copying.cuts_alike.Statement.{statement}
 use Rattle.mask_cases.proofs.copying.cuts_alike.Tie as tie
 
@@ -29,19 +29,14 @@ loop-again c =
     c .before .hash .ensures ∙ ap (hashFrom 0) (c .before .before .before .before .before .put-in-two .ensures ∙ ap (putInto (a .answer) (a .file .now)) (l .inv .1)) in
     let test : ℕ → Bool = λ n. eqb n (a .whole) in
     ⊎-elim
-    (λ w. (omega arith, omega arith, omega arith, w .1 ∙ one-more _ _ _ (l .inv .3) (ap test (sym hashed) ∙ eq-eqb _ _ (w .0 .taken))))
-    (λ w. (omega arith, omega arith, omega arith, w .1 ∙ none-more _ _ _ (l .inv .3) (ap test (sym hashed) ∙ ne-eqb _ _ (w .0 .left))))
+    (λ w. (omega arith, omega arith, omega arith, w .1 ∙ one-more _ _ _ (ap test (sym hashed) ∙ eq-eqb _ _ (w .0 .taken)) (l .inv .3)))
+    (λ w. (omega arith, omega arith, omega arith, w .1 ∙ no-more _ _ _ (ap test (sym hashed) ∙ ne-eqb _ _ (w .0 .left)) (l .inv .3)))
     (c .if1 .came)
-
--- before the first cut none is alike
-none : (t : Bool) → _≡_ {A = ℕ} 0 (cond t 0 0)
-none true = refl
-none false = refl
 
 loop-holds : tie.Need-loop-holds Inv-loop μ-loop
 loop-holds c =
     let a = c .before .before .args in
-    (omega arith, refl, omega arith, none (eqb (hashFrom 0 (putInto (a .answer) (a .file .now) (length (a .out .now)))) (a .whole)))
+    (omega arith, refl, omega arith, none-yet (eqb (hashFrom 0 (putInto (a .answer) (a .file .now) (length (a .out .now)))) (a .whole)))
 
 returns : tie.Need-returns Inv-loop μ-loop
 returns c =

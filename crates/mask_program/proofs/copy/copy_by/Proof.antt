@@ -1,15 +1,13 @@
 -- `mask_program::copy::copy_by` meets its contract. The invariant: the bytes that are to be taken lie within the buffer, which keeps its length, and the
 -- stream has taken some chunks. The measure is the count of reads.
-use Prim.Native.Nat.{_+_, _-_, _≤_, _<_}
+use Prim.Native.Nat.{_≤_}
 use mathlib.Core.Path.{_≡_, subst}
 use native.Mathlib.Omega.{arith}
 use lib.ListN.{length}
 use borrow.Author.Needs.{needs}
-use Rattle.files.proofs.Parts.{rest-length}
-use Rattle.files.proofs.Answers.{got-within}
 use Rattle.program.proofs.Taken.{none-taken, one-taken}
 use Rattle.card_program.proofs.Ended.{CardTaken, ended}
-use Rattle.mask_program.specs.Masking.{leaves}
+use Rattle.mask_program.specs.Masking.{nextWithin}
 use Rattle.mask_program.proofs.copy.copy_by.Statement.{statement}
 use Rattle.mask_program.proofs.copy.copy_by.Tie as tie
 
@@ -30,67 +28,33 @@ same-length c =
 
 -- at a refusal
 returns : tie.Need-returns Inv-loop μ-loop
-returns c =
-    ended _ (one-taken _ _ _ (c .before .before .before .before .before .before .before .before .before .loop .inv .3) (c .before .before .before .before .before .take .ensures)) (c .before .end .ensures) (c .answer2 .ensures)
+returns c = ended _ (one-taken _ _ _ (c .before .before .before .before .before .before .before .before .before .loop .inv .3) (c .before .before .before .before .before .take .ensures)) (c .before .end .ensures) (c .answer2 .ensures)
 
-write-lines-requires : tie.Need-write-lines-requires Inv-loop μ-loop
-write-lines-requires c κs =
+next-chunk-requires : tie.Need-next-chunk-requires Inv-loop μ-loop
+next-chunk-requires c κs =
     let l = c .before .before .before .before .before .before .before .before in
     (omega (arith, l .loop .inv .2, l .before .before .before .pre .0), omega (arith, l .loop .inv .1))
 
 same-length-2 : tie.Need-same-length-2 Inv-loop μ-loop
 same-length-2 c =
-    let same = c .before .before .before .before .before .before .before .before .before .before .before .before .before .loop .inv .2 in
+    let same = c .before .before .before .before .before .before .before .before .before .before .before .before .before .before .loop .inv .2 in
     search needs
-
--- the unfinished line leaves room in the buffer
-left-within : (c : tie.After-known-told Inv-loop μ-loop) → c .before .left .given .0 .0 < length (c .before .before .before .before .before .write-lines .last .1 .0)
-left-within c = subst (leaves _ _ _) (c .before .left .given .1) (c .before .before .before .before .before .write-lines .ensures) .0
 
 same-length-3 : tie.Need-same-length-3 Inv-loop μ-loop
 same-length-3 c =
-    let same = c .before .before .before .before .before .before .before .before .before .before .before .before .before .before .before .before .before .before .before .before .loop .inv .2 in
-    search needs
-
-same-length-4 : tie.Need-same-length-4 Inv-loop μ-loop
-same-length-4 c =
-    let same = c .before .before .before .before .before .before .before .before .before .before .before .before .before .before .before .before .before .before .before .before .before .before .loop .inv .2 in
+    let same = c .before .before .before .before .before .before .before .before .before .before .before .before .before .before .before .loop .inv .2 in
     search needs
 
 -- at the end of the file
-returns-4 : tie.Need-returns-4 Inv-loop μ-loop
-returns-4 c =
-    ended _ (one-taken _ _ _ (c .before .before .before .before .before .before .before .before .before .before .before .before .before .before .before .before .before .before .before .before .before .before .loop .inv .3) (c .before .before .before .before .before .before .before .before .before .before .before .before .before .before .before .before .before .before .take .ensures)) (c .before .end2 .ensures) (c .answer3 .ensures)
-
--- what was read, with the unfinished line in front, lies within the buffer
-read-within : (c : tie.After-known-told2 Inv-loop μ-loop) →
-    c .before .before .before .before .before .before .before .before .left .given .0 .0 + c .before .size .given .0 .0 ≤ length (c .before .before .before .before .before .before .before .before .before .before .before .before .write-lines .last .1 .0)
-read-within c =
-    omega (
-      arith,
-      left-within (c .before .before .before .before .before .before .before),
-      got-within _ _ _ (c .before .before .before .before .before .read-some .ensures) (c .before .size .given .1),
-      rest-length (c .before .before .before .before .before .before .before .before .before .before .before .before .write-lines .last .1 .0) (c .before .before .before .before .before .before .before .before .left .given .0 .0),
-    )
-
--- the buffer's length is a number of 64 bits
-room-fits : (c : tie.At-loop Inv-loop μ-loop) → length (c .before .before .before .args .buffer .now) < 18446744073709551616
-room-fits c = omega arith
-
-add-end : tie.Need-add-end Inv-loop μ-loop
-add-end c =
-    let l = c .before .before .before .before .before .before .before .before .before .before .before .before .before .before .before .before .before .before .before .before .before in
-    omega (arith, read-within c, c .before .before .before .before .before .before .before .before .before .before .before .buffer2 .given, l .loop .inv .2, room-fits l)
+returns-3 : tie.Need-returns-3 Inv-loop μ-loop
+returns-3 c = ended _ (one-taken _ _ _ (c .before .before .before .before .before .before .before .before .before .before .before .before .before .before .before .loop .inv .3) (c .before .before .before .before .before .before .before .before .before .before .before .take .ensures)) (c .before .end2 .ensures) (c .answer3 .ensures)
 
 loop-again : tie.Need-loop-again Inv-loop μ-loop
 loop-again c =
-    let l = c .before .before .before .before .before .before .before .before .before .before .before .before .before .before .before .before .before .before .before .before .before .loop in
-    let same = c .before .before .before .before .buffer3 .given in (
-      omega arith,
-      omega (arith, read-within c, same),
-      omega (arith, same, c .before .before .before .before .before .before .before .before .before .before .before .buffer2 .given, l .inv .2),
-      one-taken _ _ _ (l .inv .3) (c .before .before .before .before .before .before .before .before .before .before .before .before .before .before .before .before .before .take .ensures),
-    )
+    let l = c .before .before .before .before .before .before .before .before .before .before .before .before .before .before .loop in
+    let same = c .before .before .before .before .buffer2 .given in
+    let within = subst (nextWithin _) (c .before .left .given .1) (c .before .before .before .before .before .next-chunk .ensures) in
+    (within .0, omega (arith, within .1, same), omega (arith, same, l .inv .2), one-taken _ _ _ (l .inv .3) (c .before .before .before .before .before .before .before .before .before .before .take .ensures))
 
 pub copy-by-spec : {M : Type 1} → statement M
 copy-by-spec =
@@ -110,25 +74,16 @@ copy-by-spec =
     (λ c κs. tt)
     same-length
     returns
-    write-lines-requires
-    (λ c. search needs)
+    next-chunk-requires
     (λ c. search needs)
     same-length-2
     (λ c. tt)
-    (λ c. omega (arith, left-within c))
-    (λ c. omega (arith, left-within c))
-    (λ c. omega (arith, left-within c))
-    (λ c κs. tt)
     (λ c. search needs)
+    (λ c κs. tt)
+    (λ c κs. tt)
     same-length-3
-    (λ c. tt)
+    returns-3
     (λ c. search needs)
-    (λ c κs. tt)
-    (λ c κs. tt)
-    same-length-4
-    returns-4
-    (λ c. search needs)
-    add-end
     (λ c. search needs)
     (λ c. search needs)
     loop-again

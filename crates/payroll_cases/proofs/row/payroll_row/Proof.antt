@@ -1,7 +1,7 @@
 -- `payroll_cases::row::payroll_row` meets its contract, in each case.
 use mathlib.Core.Path.{sym, ap}
 use Rattle.payroll_file.specs.Answer.{rowOf}
-use Rattle.payroll_cases.specs.Row.{payrollNumbers}
+use Rattle.payroll_cases.specs.PayrollNumbers.{payrollNumbers}
 use borrow.Author.Needs.{needs}
 use Rattle.payroll_cases.proofs.row.payroll_row.Statement.{statement}
 use Rattle.payroll_cases.proofs.row.payroll_row.Tie as tie

@@ -1,6 +1,6 @@
 -- `payroll_cases::row::progress_row` meets its contract, in each case.
 use mathlib.Core.Path.{sym, ap, _∙_}
-use Rattle.payroll_cases.specs.Row.{progressNumbers}
+use Rattle.payroll_cases.specs.PayrollNumbers.{progressNumbers}
 use borrow.Author.Needs.{needs}
 use Rattle.payroll_cases.proofs.row.progress_row.Statement.{statement}
 use Rattle.payroll_cases.proofs.row.progress_row.Tie as tie

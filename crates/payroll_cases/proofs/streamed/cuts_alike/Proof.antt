@@ -9,7 +9,7 @@ use lib.ListN.{length}
 use borrow.Author.Needs.{needs}
 use Rattle.text.specs.Literal.{sameBytes}
 use Rattle.payroll_file.specs.PayrollFile.{checkOf}
-use Rattle.payroll_cases.specs.Row.{payrollNumbers, progressNumbers}
+use Rattle.payroll_cases.specs.PayrollNumbers.{payrollNumbers, progressNumbers}
 use Rattle.cases.proofs.Counted.{none-yet, at-most, one-more, no-more}
 use Rattle.payroll_cases.proofs.streamed.cuts_alike.Statement.{statement}
 use Rattle.payroll_cases.proofs.streamed.cuts_alike.Tie as tie

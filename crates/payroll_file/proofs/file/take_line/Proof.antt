@@ -2,7 +2,7 @@
 use mathlib.Core.Path.{sym, _∙_, ap}
 use Rattle.refusal.proofs.Rows.{told}
 use Rattle.payroll_record.specs.Reading.{readingOf}
-use Rattle.payroll_run.specs.Running.{tookOf}
+use Rattle.payroll_step.specs.Step.{tookOf}
 use borrow.Author.Needs.{needs}
 use Rattle.payroll_file.proofs.file.take_line.Statement.{statement}
 use Rattle.payroll_file.proofs.file.take_line.Tie as tie

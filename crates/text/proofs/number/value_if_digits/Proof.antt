@@ -6,7 +6,7 @@ use native.Mathlib.Omega.{arith}
 use borrow.Author.Needs.{needs}
 use borrow.Author.Tests.{le-leb, lt-leb}
 use lib.ListN.{length, drop}
-use Rattle.text.specs.Number.{weighed, zerosWeighed}
+use Rattle.text.specs.Weighed.{weighed, zerosWeighed}
 use Rattle.text.proofs.Weights.{byte-more, zero-more, bytes-end, zeros-end, Light, light-more, light-room}
 use Rattle.text.proofs.number.value_if_digits.Statement.{statement}
 use Rattle.text.proofs.number.value_if_digits.Tie as tie

@@ -12,8 +12,8 @@ enum-told c = search needs
 enum-told-2 : tie.Need-enum-told-2
 enum-told-2 c = search needs
 
-staged-requires : tie.Need-staged-requires
-staged-requires c κs = search needs
+moved-requires : tie.Need-moved-requires
+moved-requires c κs = search needs
 
 enum-told-3 : tie.Need-enum-told-3
 enum-told-3 c = search needs
@@ -38,27 +38,27 @@ refused-requires-3 c κs = search needs
 
 returns : tie.Need-returns
 unfolding closedAt
-returns c = ap (λ (s : Stage). closedAt s (c .before .before .args .self)) (sym (c .enum-told .given .1))
+returns c = ap (λ (s : Stage). closedAt s (c .before .before .before .before .args .self)) (sym (c .enum-told .given .1))
 
 returns-2 : tie.Need-returns-2
 unfolding closedAt
-returns-2 c = c .staged .ensures ∙ ap (λ (s : Stage). closedAt s (c .before .before .before .args .self)) (sym (c .before .enum-told2 .given .1))
+returns-2 c = c .moved .ensures ∙ ap (λ (s : Stage). closedAt s (c .before .before .before .before .before .args .self)) (sym (c .before .enum-told2 .given .1))
 
 returns-3 : tie.Need-returns-3
 unfolding closedAt
-returns-3 c = ap (λ (s : Stage). closedAt s (c .before .before .args .self)) (sym (c .enum-told3 .given .1))
+returns-3 c = ap (λ (s : Stage). closedAt s (c .before .before .before .before .args .self)) (sym (c .enum-told3 .given .1))
 
 returns-4 : tie.Need-returns-4
 unfolding closedAt
-returns-4 c = c .refused .ensures ∙ ap (λ (s : Stage). closedAt s (c .before .before .before .args .self)) (sym (c .before .enum-told4 .given .1))
+returns-4 c = c .refused .ensures ∙ ap (λ (s : Stage). closedAt s (c .before .before .before .before .before .args .self)) (sym (c .before .enum-told4 .given .1))
 
 returns-5 : tie.Need-returns-5
 unfolding closedAt
-returns-5 c = c .refused2 .ensures ∙ ap (λ (s : Stage). closedAt s (c .before .before .before .args .self)) (sym (c .before .enum-told5 .given .1))
+returns-5 c = c .refused2 .ensures ∙ ap (λ (s : Stage). closedAt s (c .before .before .before .before .before .args .self)) (sym (c .before .enum-told5 .given .1))
 
 returns-6 : tie.Need-returns-6
 unfolding closedAt
-returns-6 c = c .refused3 .ensures ∙ ap (λ (s : Stage). closedAt s (c .before .before .before .args .self)) (sym (c .before .enum-told6 .given .1))
+returns-6 c = c .refused3 .ensures ∙ ap (λ (s : Stage). closedAt s (c .before .before .before .before .before .args .self)) (sym (c .before .enum-told6 .given .1))
 
 pub close-spec : {M : Type 1} → statement M
 close-spec =
@@ -66,7 +66,7 @@ close-spec =
     (tie.spec
     enum-told
     enum-told-2
-    staged-requires
+    moved-requires
     enum-told-3
     enum-told-4
     refused-requires

@@ -3,21 +3,14 @@ use Prim.Native.Nat.{ℕ}
 use mathlib.Core.Path.{_∙_, ap}
 use Rattle.card_run.specs.declared.stage.Stage.the-variants.{Refused}
 use Rattle.card_run.specs.Running.{staged}
-use borrow.Author.Needs.{needs}
 use Rattle.card_run.proofs.running.Running.refused.Statement.{statement}
 use Rattle.card_run.proofs.running.Running.refused.Tie as tie
 
-next-number-requires : tie.Need-next-number-requires
-next-number-requires c κs = search needs
-
-staged-requires : tie.Need-staged-requires
-staged-requires c κs = search needs
-
 returns : tie.Need-returns
 returns c =
-    let a = c .before .before .args in
-    c .staged .ensures ∙
-    ap (λ (n : ℕ). staged (Refused (record { cause = a .cause; «record» = n; column = a .column })) (a .self)) (c .before .next-number .ensures)
+    let a = c .before .before .before .before .args in
+    c .moved .ensures ∙
+    ap (λ (n : ℕ). staged (Refused (record { cause = a .cause; «record» = n; column = a .column })) (a .self)) (c .before .before .before .next-number .ensures)
 
 pub refused-spec : {M : Type 1} → statement M
-refused-spec = tie.close (tie.spec next-number-requires staged-requires returns)
+refused-spec = tie.close (tie.spec (λ c κs. tt) (λ c κs. tt) returns)

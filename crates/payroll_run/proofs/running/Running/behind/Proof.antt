@@ -1,6 +1,6 @@
 -- `payroll_run::running::Running::behind` meets its contract: each arm goes behind its reading.
 use mathlib.Core.Path.{sym, _∙_, ap}
-use Rattle.payroll_run.specs.Running.{behind}
+use Rattle.payroll_run.specs.Behind.{behind}
 use borrow.Author.Needs.{needs}
 use Rattle.payroll_run.proofs.running.Running.behind.Statement.{statement}
 use Rattle.payroll_run.proofs.running.Running.behind.Tie as tie

@@ -1,4 +1,5 @@
 -- `payroll_run::running::Running::behind_batch_header` meets its contract: each number that changes is the promised one.
+use Rattle.payroll_run.specs.State.{newBatch, moved}
 use borrow.Author.Needs.{needs}
 use Rattle.payroll_run.proofs.running.Running.behind_batch_header.Statement.{statement}
 use Rattle.payroll_run.proofs.running.Running.behind_batch_header.Tie as tie
@@ -13,15 +14,7 @@ returns : tie.Need-returns
 returns c =
     let e = c .before .counted .ensures in
     let n = c .added .ensures in
-    λ i. record {
-      stage = e i .stage;
-      «is_return» = e i .«is_return»;
-      records = e i .records;
-      batches = n i;
-      payments = e i .payments;
-      amount = e i .amount;
-      batch = record { records = 1; details = 0; sum = 0 };
-    }
+    λ i. moved (e i .stage) (e i .records) (n i) (e i .payments) (e i .amount) newBatch (e i)
 
 pub behind-batch-header-spec : {M : Type 1} → statement M
 behind-batch-header-spec = tie.close (tie.spec counted-requires added-requires returns)

@@ -1,7 +1,7 @@
 -- `payroll_run::running::Running::behind_detail` meets its contract: the segment decides.
 use mathlib.Core.Path.{sym, _∙_, ap}
 use Rattle.payroll_record.specs.declared.kind.Kind.{Kind}
-use Rattle.payroll_run.specs.Running.{behindDetailAs}
+use Rattle.payroll_run.specs.Behind.{behindDetailAs}
 use borrow.Author.Needs.{needs}
 use Rattle.payroll_run.proofs.running.Running.behind_detail.Statement.{statement}
 use Rattle.payroll_run.proofs.running.Running.behind_detail.Tie as tie

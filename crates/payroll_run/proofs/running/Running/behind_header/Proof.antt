@@ -1,4 +1,6 @@
--- `payroll_run::running::Running::behind_header` meets its contract: each number that changes is the promised one.
+-- `payroll_run::running::Running::behind_header` meets its contract: the header says whether the file is a return.
+use mathlib.Core.Path.{ap}
+use Rattle.payroll_run.specs.State.{returned}
 use borrow.Author.Needs.{needs}
 use Rattle.payroll_run.proofs.running.Running.behind_header.Statement.{statement}
 use Rattle.payroll_run.proofs.running.Running.behind_header.Tie as tie
@@ -7,18 +9,7 @@ counted-requires : tie.Need-counted-requires
 counted-requires c κs = search needs
 
 returns : tie.Need-returns
-returns c =
-    let h = c .before .args .header in
-    let e = c .counted .ensures in
-    λ i. record {
-      stage = e i .stage;
-      «is_return» = h .«is_return»;
-      records = e i .records;
-      batches = e i .batches;
-      payments = e i .payments;
-      amount = e i .amount;
-      batch = e i .batch;
-    }
+returns c = ap (returned (c .before .args .header .«is_return»)) (c .counted .ensures)
 
 pub behind-header-spec : {M : Type 1} → statement M
 behind-header-spec = tie.close (tie.spec counted-requires returns)

@@ -1,4 +1,5 @@
 -- `payroll_run::running::Running::behind_segment` meets its contract: each number that changes is the promised one.
+use Rattle.payroll_run.specs.State.{moved}
 use borrow.Author.Needs.{needs}
 use Rattle.payroll_run.proofs.running.Running.behind_segment.Statement.{statement}
 use Rattle.payroll_run.proofs.running.Running.behind_segment.Tie as tie
@@ -29,15 +30,8 @@ returns c =
     let r = c .before .before .before .before .before .added .ensures in
     let d = c .before .before .before .before .added2 .ensures in
     let s = c .before .before .before .paid .ensures in
-    λ i. record {
-      stage = e i .stage;
-      «is_return» = e i .«is_return»;
-      records = e i .records;
-      batches = e i .batches;
-      payments = p i;
-      amount = t i;
-      batch = record { records = r i; details = d i; sum = s i };
-    }
+    λ i.
+    moved (e i .stage) (e i .records) (e i .batches) (p i) (t i) (record { records = r i; details = d i; sum = s i }) (e i)
 
 pub behind-segment-spec : {M : Type 1} → statement M
 behind-segment-spec =

@@ -1,4 +1,5 @@
 -- `payroll_run::running::Running::counted` meets its contract: the stage and the counts change.
+use Rattle.payroll_run.specs.State.{moved}
 use borrow.Author.Needs.{needs}
 use Rattle.payroll_run.proofs.running.Running.counted.Statement.{statement}
 use Rattle.payroll_run.proofs.running.Running.counted.Tie as tie
@@ -18,15 +19,9 @@ returns c =
     let e = c .before .staged .ensures in
     let n = c .next-number .ensures in
     let m = c .before .before .added .ensures in
-    λ i. record {
-      stage = e i .stage;
-      «is_return» = e i .«is_return»;
-      records = n i;
-      batches = e i .batches;
-      payments = e i .payments;
-      amount = e i .amount;
-      batch = record { records = m i; details = open-batch .details; sum = open-batch .sum };
-    }
+    λ i.
+    moved (e i .stage) (n i) (e i .batches) (e i .payments) (e i .amount)
+    (record { records = m i; details = open-batch .details; sum = open-batch .sum }) (e i)
 
 pub counted-spec : {M : Type 1} → statement M
 counted-spec = tie.close (tie.spec added-requires staged-requires next-number-requires returns)

@@ -2,7 +2,7 @@
 use mathlib.Core.Path.{_∙_, ap}
 use Rattle.refusal.specs.declared.Refusal.{Refusal}
 use Rattle.payroll_run.specs.declared.stage.Stage.the-variants.{Refused}
-use Rattle.payroll_run.specs.Running.{staged}
+use Rattle.payroll_run.specs.State.{staged}
 use borrow.Author.Needs.{needs}
 use Rattle.payroll_run.proofs.running.Running.refused.Statement.{statement}
 use Rattle.payroll_run.proofs.running.Running.refused.Tie as tie

@@ -1,0 +1,68 @@
+-- The row of every kind that has a card. A kind more with a card is one row more, and no other proof.
+use Prim.Native.Nat.{ℕ}
+use mathlib.Core.Path.{_≡_, refl, ap, subst}
+use mathlib.Core.List.{List}
+use native.Mathlib.Omega.{arith}
+use lib.ListN.{take, drop}
+use Rattle.card_content.specs.declared.content.ClosedSet.the-variants.{LaunchType}
+use Rattle.card_content.specs.declared.content.Content.the-variants.{Digits, Card, OneOf}
+use Rattle.card_content.specs.Content.{contentRules}
+use Rattle.card_content.specs.EqualOutside.{EqualOutside}
+use Rattle.card_content.specs.Field.{field}
+use Rattle.card_content.proofs.FieldParts.{same-number}
+use Rattle.card_sale.specs.Cv.{cvTable, cvOf}
+use Rattle.card_record.specs.declared.card_part.CardPart.the-variants.{From, Nowhere}
+use Rattle.card_record.specs.declared.kind.Kind.{Kind}
+use Rattle.card_record.specs.declared.kind.Kind.the-variants.{A0, L0, Cv, L9, A9}
+use Rattle.card_record.specs.declared.reading.Reading.the-variants.{Cv as cv}
+use Rattle.card_record.specs.Reading.{cardOf, rightReading}
+use Rattle.card_record.proofs.CardRow.{CardRow}
+
+-- CV
+cv-numbers : (r s : List ℕ) → EqualOutside 87 106 r s → cvOf r ≡ cvOf s
+cv-numbers r s same =
+    let number = same-number 87 106 r s same in
+    rw (
+      number (field 44 44 (OneOf LaunchType)) refl,
+      number (field 55 65 Digits) refl,
+      number (field 66 76 Digits) refl,
+      number (field 77 87 Digits) refl,
+      number (field 107 108 Digits) refl,
+      number (field 109 110 Digits) refl,
+      number (field 111 122 Digits) refl,
+      number (field 123 133 Digits) refl,
+      number (field 134 144 Digits) refl,
+      number (field 145 155 Digits) refl,
+      number (field 194 199 Digits) refl,
+    )
+
+cv-row : CardRow Cv 87
+unfolding contentRules rightReading
+cv-row =
+    record {
+      kind-clear = refl;
+      inside = refl;
+      card = field 88 106 Card;
+      before = take 11 cvTable;
+      behind = drop 12 cvTable;
+      table = refl;
+      before-clear = refl;
+      behind-clear = refl;
+      same-card = λ edition r s alike. rw alike;
+      same-numbers = λ r s same. ap cv (cv-numbers r s same);
+    }
+
+-- what has no card has none at a place
+pub nowhere : {from : ℕ} → Nowhere ≡ From from → ⊥
+nowhere e = let z : _≡_ {A = ℕ} 0 1 = cc in omega arith
+
+same-from : {k from : ℕ} → From k ≡ From from → k ≡ from
+same-from e = cc
+
+-- each kind
+pub card-row : (kind : Kind) {from : ℕ} → cardOf kind ≡ From from → CardRow kind from
+card-row A0 e = absurd (nowhere e)
+card-row L0 e = absurd (nowhere e)
+card-row Cv e = subst (CardRow Cv) (same-from e) cv-row
+card-row L9 e = absurd (nowhere e)
+card-row A9 e = absurd (nowhere e)
