@@ -5,8 +5,8 @@
     tests/payroll_cases.py --list    and print where in `stdout` each case stands, its name and its answer
 
 It writes crates/payroll_cases/data/own.cases (length (4 bytes), the file) and what stands from the line `own` on in crates/payroll_cases/stdout: the
-lines of whole files, those of `made`, which are too long to be kept and which the program makes itself (src/made.rt), and the lines of whole files again
-for the same files in chunks, where the outside cases' lines are repeated too.
+lines of whole files, those of `made`, which are too long to be kept and which the program makes itself (src/made.rt), or makes and takes record by record
+(src/long_batch.rt), and the lines of whole files again for the same files in chunks, where the outside cases' lines are repeated too.
 
 A case is a name, how its file is built, and the line that document 01 gives it. The lines are written here by hand: nothing in this script
 computes an answer, and no program under test was asked for one. Where a program prints another line, document 01 decides which is right.
@@ -101,6 +101,12 @@ MADE = [
     ("an amount past 2^64", "R 11 19040 0"),
     ("9,998 batches", "A 19998 9998 0 0"),
     ("9,999 batches", "R 9 19998 4"),
+]
+# And those that it makes and takes record by record: "Detail number 9-13, from 1 in each batch, rising by one (9)". Behind the two headers the n-th detail
+# is record n + 2, and each is a payment of one centavo.
+MADE_BY_RECORD = [
+    ("99,999 details in a batch, as many as five digits tell", "A 100003 1 99999 99999"),
+    ("the 100,000th detail of a batch", "R 9 100002 9"),
 ]
 
 
@@ -327,6 +333,7 @@ def main():
     write_stdout("payroll_cases", [
         ("own", own),
         ("made", MADE),
+        ("made, record by record", MADE_BY_RECORD),
         ("outside, in chunks", outside("payroll_cases")),
         ("own, in chunks", own),
         ("own, cut at every place", cut_at_every_place(CASES, 1000))])

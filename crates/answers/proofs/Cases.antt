@@ -5,7 +5,7 @@ use mathlib.Core.Path.{_≡_, ap, ap₂}
 use mathlib.Core.List.{List}
 use lib.ListN.{getD}
 use Rattle.text.specs.Literal.{sameBytes}
-use Rattle.card_run.specs.Answer.{rowOf}
+use Rattle.card_run.specs.Answer.{cardFileRow}
 use Rattle.cases.specs.declared.cursor.Number.{Number}
 use Rattle.cases.specs.Cursor.{highFirst, NumberAt, PartAt}
 use Rattle.cases.specs.Cuts.{sizeOf}
@@ -21,7 +21,7 @@ same-number : {s : List ℕ} {at size : ℕ} {r r' : Number} → NumberAt s at s
 same-number p q = ap₂ numberWith (equal (p .value) (q .value)) (equal (p .behind) (q .behind))
 
 pub cases : (κ : Lft) → Cases κ
-unfolding sameBytes rowOf highFirst PartAt sizeOf hashFrom pattern
+unfolding sameBytes cardFileRow highFirst PartAt sizeOf hashFrom pattern
 cases κ =
     record {
       number-at = λ κs a r r' s s' p q. same-number p q;

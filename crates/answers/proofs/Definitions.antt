@@ -18,7 +18,7 @@ use Rattle.card_sale.specs.Cv.{joinedRules}
 use Rattle.card_record.specs.CardPart.{cardPartFound}
 use Rattle.card_record.specs.Kind.{kindNamed}
 use Rattle.card_record.specs.Reading.{rightReading, judgedAs, readFound}
-use Rattle.card_run.specs.Answer.{answerAt, rowOf}
+use Rattle.card_run.specs.Answer.{answerAt, cardFileRow}
 use Rattle.edition.specs.Known.{known}
 use Rattle.card_run.specs.Running.{closedAt, lateAt}
 use Rattle.card_step.specs.Rules.{joinedAt, rulesOf}
@@ -41,15 +41,14 @@ use Rattle.payroll_file.specs.PayrollFile.{
   endAt,
 }
 use Rattle.payroll_kept.proofs.KeptMeansKept as payroll-law
-use Rattle.card_kept.specs.FirstFault.{isAccepted}
+use Rattle.card_run.proofs.FileRows.{isAccepted}
 use Rattle.demands.specs.HiddenDigits.{hiddenAt, hiddenInPieces}
-use Rattle.demands.specs.LentBuffers.{AllZero}
 use Rattle.answers.specs.Definitions.{Definitions}
 use Rattle.answers.proofs.Told.{told, bit}
 use Rattle.answers.proofs.Observed.{payrollAnswerRead}
 
 pub definitions : Definitions
-unfolding known firstBroken allowed holdsOnly firstStray valueFrom sameBytes hasByte oneByteOf daysIn isDay isTime whenRules wellFormed leadingZeros hiddenPlaces inFront cut joined endsInCr withoutLast inSet contentRules tableRules recordRules joinedRules cardPartFound kindNamed rightReading judgedAs readFound answerAt rowOf joinedAt rulesOf behind behindOrRefused tookAt closedAt unendedAt linesOf endOf numberRules strayAt segmentNamed payrollKindNamed readAs payrollReadFound foundRules dueRules payrollRunRules behindDetailAs payrollBehind payrollBehindOrRefused payrollTookAt payrollUnendedAt payrollLinesOf endedOf cutShortOf endAt hiddenAt hiddenInPieces AllZero lateAt
+unfolding known firstBroken allowed holdsOnly firstStray valueFrom sameBytes hasByte oneByteOf daysIn isDay isTime whenRules wellFormed leadingZeros hiddenPlaces inFront cut joined endsInCr withoutLast inSet contentRules tableRules recordRules joinedRules cardPartFound kindNamed rightReading judgedAs readFound answerAt cardFileRow joinedAt rulesOf behind behindOrRefused tookAt closedAt unendedAt linesOf endOf numberRules strayAt segmentNamed payrollKindNamed readAs payrollReadFound foundRules dueRules payrollRunRules behindDetailAs payrollBehind payrollBehindOrRefused payrollTookAt payrollUnendedAt payrollLinesOf endedOf cutShortOf endAt hiddenAt hiddenInPieces lateAt
 definitions =
     record {
       kept-other-card = kept-means-kept 2 _ .0 (record { numbers = _; answer = refl });
@@ -65,5 +64,5 @@ definitions =
       rules-place-first = refl;
       refused-at-once = refl;
       refused-not-before = refl;
-      accepted-not-alone = λ alone. told (λ n. n) refl (alone .zero .0);
+      accepted-not-alone = λ alone. told (λ numbers. numbers .records) refl (alone .counts);
     }

@@ -18,4 +18,5 @@ pub mod PayrollFile
 pub mod DaySheet
 pub mod Cases
 pub mod Definitions
+pub mod Variants
 pub mod Programs

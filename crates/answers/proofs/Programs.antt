@@ -1,6 +1,6 @@
 -- The contracts of the programs' libraries rule wrong answers out: an answer is that of some bytes, and the laws of every answer hold of it.
 use Prim.Native.Nat.{ℕ, zero, suc}
-use mathlib.Core.Path.{_≡_, refl, sym, _∙_}
+use mathlib.Core.Path.{_≡_, refl, sym, _∙_, ap}
 use mathlib.Core.Bool.{true}
 use mathlib.Core.List.{List, []}
 use native.Mathlib.Omega.{arith}
@@ -25,7 +25,7 @@ use Rattle.card_content.specs.Field.{tableRules, recordRules}
 use Rattle.card_sale.specs.Cv.{joinedRules}
 use Rattle.card_record.specs.Kind.{kindNamed}
 use Rattle.card_record.specs.Reading.{rightReading, judgedAs, readFound}
-use Rattle.card_run.specs.Answer.{answerAt}
+use Rattle.card_run.specs.Answer.{answerAt, cardFileRow}
 use Rattle.edition.specs.Known.{known}
 use Rattle.card_run.specs.Running.{closedAt, lateAt}
 use Rattle.card_step.specs.Rules.{joinedAt, rulesOf}
@@ -73,8 +73,8 @@ disagreeing bytes e =
 
 -- under edition 3 no file is accepted
 of-edition-3 : (bytes : List ℕ) → accepted 5 1 oneSale ≡ checkOf 3 bytes → ⊥
-unfolding known
-of-edition-3 bytes e = told answerRead refl (e ∙ edition-first 3 refl bytes)
+unfolding known cardFileRow
+of-edition-3 bytes e = told (λ row. bit (row .accepted)) refl (ap cardFileRow e ∙ edition-first 3 refl bytes)
 
 -- the numbers of every accepted payroll file are the plain ones of its records
 plain : (bytes : List ℕ) (a : PayrollNumbers) (e : accepted-payroll a ≡ payrollCheckOf bytes) →

@@ -6,15 +6,15 @@ use Rattle.refusal.specs.Rules.{firstBroken}
 use Rattle.refusal.specs.declared.Cause.the-variants.{KindNotAllowedHere, SequenceWrong}
 use Rattle.refusal.specs.declared.Fault.the-variants.{At as faultAt}
 use Rattle.lines.specs.Lines.{joined}
-use Rattle.card_run.specs.Answer.{rowOf}
+use Rattle.card_run.specs.Running.{noNumbers}
+use Rattle.card_run.specs.Answer.{goingOnRow, refusedRow, cardFileRow}
 use Rattle.card_run.specs.declared.stage.Stage.the-variants.{BetweenBatches}
-use Rattle.card_run.specs.declared.answer.CardAnswer.the-variants.{GoingOn, Refused}
 use Rattle.card_kept.specs.Kept.{Kept}
 use Rattle.payroll_kept.specs.Kept as payroll
 use Rattle.demands.specs.Feeding.{upTo}
 use Rattle.card_kept.specs.FirstFault.{rulesAt}
 use Rattle.demands.specs.HiddenDigits.{hiddenIn, TwinFiles}
-use Rattle.demands.specs.LentBuffers.{cardCounts, LeftAlone}
+use Rattle.demands.specs.LentBuffers.{LeftAlone}
 use Rattle.answers.specs.CardRun.{state, refusal, noSale, oneSale, accepted}
 use Rattle.answers.specs.Samples.{
   at,
@@ -51,7 +51,7 @@ pub record Definitions : Type 0 where
   -- `rulesAt`: the place judged behind the width
   pub rules-place-first : firstBroken (rulesAt (state BetweenBatches 1 noSale) (at 200 "0" sale)) ≡ faultAt KindNotAllowedHere 0
   -- `upTo`: a refusal that shows a record late, and one that shows before its record
-  pub refused-at-once : upTo 3 (Refused (refusal SequenceWrong 3 194)) ≡ Refused (refusal SequenceWrong 3 194)
-  pub refused-not-before : upTo 2 (Refused (refusal SequenceWrong 3 194)) ≡ GoingOn
+  pub refused-at-once : upTo 3 (refusedRow (refusal SequenceWrong 3 194)) ≡ refusedRow (refusal SequenceWrong 3 194)
+  pub refused-not-before : upTo 2 (refusedRow (refusal SequenceWrong 3 194)) ≡ goingOnRow
   -- `LeftAlone`: said of an accepted answer too
-  pub accepted-not-alone : LeftAlone (cardFile ≡ cardFile) (cardCounts (rowOf (accepted 5 1 oneSale))) → ⊥
+  pub accepted-not-alone : LeftAlone (cardFile ≡ cardFile) (cardFileRow (accepted 5 1 oneSale) .numbers ≡ noNumbers) → ⊥

@@ -19,7 +19,9 @@ use Rattle.answers.specs.PayrollFile.{PayrollFile}
 use Rattle.answers.specs.DaySheet.{DaySheet}
 use Rattle.answers.specs.Cases.{Cases}
 use Rattle.answers.specs.Definitions.{Definitions}
+use Rattle.answers.specs.Variants.{Variants}
 use Rattle.answers.specs.Programs.{Programs}
+use Rattle.demands.specs.Demands.{Demands}
 
 pub record HeldToAccount : Type 0 where
   pub refusal : Refusal
@@ -40,4 +42,5 @@ pub record HeldToAccount : Type 0 where
   pub day-sheet : (κ : Lft) → DaySheet κ
   pub cases : (κ : Lft) → Cases κ
   pub definitions : Definitions
+  pub variants : (d : Demands) → Variants d
   pub programs : (κ : Lft) (fd : ℤ) → Programs κ fd

@@ -18,5 +18,6 @@ pub mod PayrollFile
 pub mod DaySheet
 pub mod Cases
 pub mod Definitions
+pub mod Variants
 pub mod Programs
 pub mod HeldToAccount

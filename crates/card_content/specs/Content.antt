@@ -28,13 +28,14 @@ inSet Processing edition p = oneByteOf (ascii "NR") p  -- "processing 69, N or R
 inSet Currency edition p = isCurrency p
 inSet LaunchType edition p = oneByteOf (ascii "012") p  -- "launch type 44 (0 forecast, 1 normal, 2 advanced)"
 inSet Product edition p = oneByteOf (ascii "CDV") p  -- "product 53 (C, D, V)"
-inSet Capture edition p = oneByteOf (cond (eqb edition 2) (ascii "123456789") (ascii "12345689")) p  -- "1 to 9, and 7 only under edition 2"
+inSet Capture edition p = oneByteOf (cond (eqb edition 2) (ascii "123456789") (ascii "12345689")) p  -- "capture 54 (1 to 9, and 7 only under edition 2)"
 
--- the rules of a field by its content
+-- the rules of a field by its content: "N is digits only, as are dates, times, amounts, instalment numbers and NSEQ (else 7)";
+-- "A field with a closed set (version, processing, currency, launch type, product, capture) gives 8 only"
 unfoldable pub contentRules : Content → ℕ → ℕ → List ℕ → List Rule
-contentRules Digits edition column p = ruleAt ByteNotAllowed column (holdsOnly digits p) ∷ []  -- "N is digits only .. (else 7)"
+contentRules Digits edition column p = ruleAt ByteNotAllowed column (holdsOnly digits p) ∷ []
 contentRules Text edition column p = ruleAt ByteNotAllowed column (holdsOnly cardText p) ∷ []  -- "AN is bytes 32 to 126"
 contentRules Day edition column p = whenRules column (yearFirst p)
 contentRules Time edition column p = whenRules column (timeOf p)
 contentRules Card edition column p = ruleAt ByteNotAllowed column (wellFormed p) ∷ []  -- "The card field holds digits and stars only (7)"
-contentRules (OneOf set) edition column p = ruleAt ValueNotAllowed column (inSet set edition p) ∷ []  -- "A field with a closed set .. gives 8 only"
+contentRules (OneOf set) edition column p = ruleAt ValueNotAllowed column (inSet set edition p) ∷ []

@@ -28,7 +28,7 @@ unfoldable pub linesOf : Running → List (List ℕ) → Running
 linesOf st [] = st
 linesOf st (piece ∷ pieces) = linesOf (lineOf st piece) pieces
 
--- what is left behind the last LF: nothing, and the file is closed ("12, file ends too early"), or bytes without a line end
+-- what is left behind the last LF: nothing, and the file is closed (12, "file ends too early"), or bytes without a line end
 unfoldable pub endOf : Running → List ℕ → Running
 endOf st [] = closedOf st
 endOf st (b ∷ s) = unendedOf st

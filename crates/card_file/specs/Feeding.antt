@@ -5,7 +5,7 @@ use Rattle.card_record.specs.Reading.{readingOf}
 use Rattle.card_run.specs.declared.running.Running.{Running}
 use Rattle.card_step.specs.Step.{tookOf}
 
--- the next record's bytes
+-- the next record's bytes, whatever they are: "one with LF is judged from 4 on like any other"
 abbrev pub fedOf : Running → List ℕ → Running
 fedOf st r = tookOf st (readingOf (st .edition) r)
 

@@ -1,4 +1,4 @@
--- The answer of a file to a question that writes: "1", then 2, "output too short", before any record, then the file's own.
+-- The answer of a file to a question that writes: "Order: 1, then 2, then records from the first on"; 2, "output shorter than what is to be written", comes before any record.
 use Prim.Native.Nat.{ℕ}
 use mathlib.Core.List.{List}
 use mathlib.Core.Bool.{cond}

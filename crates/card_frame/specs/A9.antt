@@ -1,4 +1,4 @@
--- A9, section 2.9 of document 003: 14 bytes (docs/READINGS.md).
+-- A9, 14 bytes: "the tables printed in sections 2.8 and 2.9 of document 003; the last printed position is the width" (docs/READINGS.md).
 use Prim.Native.Nat.{ℕ}
 use mathlib.Core.List.{List, [], _∷_}
 use Rattle.card_content.specs.declared.content.Content.the-variants.{Digits}

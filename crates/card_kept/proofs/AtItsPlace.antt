@@ -25,7 +25,8 @@ use Rattle.card_step.specs.Rules.{joinedAt, rulesOf}
 use Rattle.card_step.specs.Step.{behindOrRefused, tookAt}
 use Rattle.card_file.specs.Feeding.{fedOf}
 use Rattle.card_run.specs.Answer.{answerAt, answerOf}
-use Rattle.card_kept.specs.FirstFault.{ended, kindRule, rulesAs, rulesFromKind, rulesAt, isRefusal}
+use Rattle.card_run.proofs.FileRows.{isRefusal}
+use Rattle.card_kept.specs.FirstFault.{ended, kindRule, rulesAs, rulesFromKind, rulesAt}
 
 module _ (st : Running) (r : List ℕ) where
   -- the place, the record's own fault, the joined rules

@@ -21,41 +21,35 @@ use Rattle.card_run.specs.declared.stage.Stage.the-variants.{Start, BetweenBatc
 use Rattle.card_run.specs.declared.running.Running.{Running}
 use Rattle.card_run.specs.declared.answer.CardAnswer.the-variants.{Refused as refused}
 use Rattle.card_run.specs.Running.{openOf, nextNumber, closedAt}
-use Rattle.card_run.specs.Answer.{answerAt, answerOf}
+use Rattle.card_run.specs.Answer.{answerAt, answerOf, cardFileRow}
+use Rattle.card_file.specs.Feeding.{fedOf}
 use Rattle.card_file.specs.CardFile.{lineOf, linesOf, endOf, checkOf}
-use Rattle.card_kept.specs.FirstFault.{
-  ended,
-  endRule,
-  isRefusal,
-  isAccepted,
-  RefusedBy,
-  FirstFaultOfRecord,
-  Next,
-  piece,
-  rest,
-  nextRules,
-  piecesHold,
-  FirstFaultOfFile,
-  AllHoldInFile,
-  EditionFirst,
-  FirstFaultDecides,
-}
+use Rattle.card_run.proofs.FileRows.{same-answer, isRefusal, isAccepted, refusal-told, accepted-told}
+use Rattle.card_kept.specs.FirstFault.{ended, endRule, RefusedBy, FirstFaultOfRecord, Next, piece, rest, nextRules, piecesHold, FirstFaultOfFile, AllHoldInFile, EditionFirst, FirstFaultDecides}
 use Rattle.card_kept.proofs.Stays as stays
 use Rattle.card_kept.proofs.Standing.{next-number, reached, lines-open}
 use Rattle.card_kept.proofs.Outcomes.{Outcome, of-record, of-piece, of-rest, by-refused, refused-exactly, not-refused-exactly}
 
 -- THE THEOREM of a record, in every state that is not refused
 pub first-fault-of-record : (st : Running) (r : List ℕ) → isRefusal (answerOf st) ≡ false → FirstFaultOfRecord st r
+unfolding cardFileRow
 first-fault-of-record st r going =
     let o = of-record st going r in
-    record { is-refused = refused-exactly o; is-not = not-refused-exactly o }
+    let told = refusal-told (answerOf (fedOf st r)) in
+    record {
+      is-refused = λ x.
+          let exactly = refused-exactly o x in
+          (λ e. exactly .0 (same-answer _ (refused x) e), λ w. ap cardFileRow (exactly .1 w));
+      is-not = (λ e. not-refused-exactly o .0 (told .1 e), λ h. told .0 (not-refused-exactly o .1 h));
+    }
 
 -- THE THEOREM of a bad edition
 pub edition-first : (edition : ℕ) → known edition ≡ false → EditionFirst edition
+unfolding cardFileRow
 edition-first edition bad file =
     let e = stays.bad-edition-opens edition bad in
     let x = nowhere EditionUnknown in
-    ap answerOf (stays.ran x (openOf edition) (cut file) (stays.stage-of (openOf edition) x e)) ∙ e
+    ap cardFileRow (ap answerOf (stays.ran x (openOf edition) (cut file) (stays.stage-of (openOf edition) x e)) ∙ e)
 
 -- a first place that breaks a rule, among the pieces and the rest that a run goes over
 record Breaks (st : Running) (ps : List (List ℕ)) (left : List ℕ) (x : Refusal) : Type 0 where
@@ -235,9 +229,16 @@ module _ (edition : ℕ) (is-known : known edition ≡ true) (file : List ℕ) w
 
   -- THE THEOREM of a file
   pub first-fault-decides : FirstFaultDecides edition file
+  unfolding cardFileRow
   first-fault-decides =
       let found = verdict (openOf edition) (cut file .pieces) (cut file .rest) in
       record {
-        is-refused = λ x. (λ e. refused-from x e found, λ w. breaks-answer x (of-first-fault x w));
-        is-accepted = (λ a. accepted-from a found, λ all. keeps-answer (all .rest-holds));
+        is-refused = λ x. (
+          λ e. refused-from x (same-answer _ (refused x) e) found,
+          λ w. ap cardFileRow (breaks-answer x (of-first-fault x w)),
+        );
+        is-accepted = (
+          λ a. accepted-from (accepted-told (checkOf edition file) ∙ a) found,
+          λ all. sym (accepted-told (checkOf edition file)) ∙ keeps-answer (all .rest-holds),
+        );
       }

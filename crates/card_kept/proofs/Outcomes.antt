@@ -35,7 +35,8 @@ use Rattle.card_step.specs.Step.{behindOrRefused}
 use Rattle.card_file.specs.Feeding.{fedOf}
 use Rattle.card_run.specs.Answer.{answerAt, answerOf}
 use Rattle.card_file.specs.CardFile.{unendedAt, unendedOf, lineOf, endOf}
-use Rattle.card_kept.specs.FirstFault.{ended, endRule, rulesFromKind, rulesAt, isRefusal, RefusedBy, piece, rest, nextRules}
+use Rattle.card_run.proofs.FileRows.{isRefusal}
+use Rattle.card_kept.specs.FirstFault.{ended, endRule, rulesFromKind, rulesAt, RefusedBy, piece, rest, nextRules}
 use Rattle.card_kept.proofs.AtItsPlace.{fed-by-fault}
 
 -- what the first fault of rules makes of a run

@@ -43,7 +43,7 @@ use Rattle.card_step.specs.Step.{behindOrRefused, judgedOf, tookAt}
 use Rattle.card_file.specs.Feeding.{fedOf, fedAll}
 use Rattle.card_run.specs.Answer.{answerAt, answerOf}
 use Rattle.card_file.specs.CardFile.{unendedAt, unendedOf, lineOf, linesOf}
-use Rattle.card_kept.specs.FirstFault.{isRefusal}
+use Rattle.card_run.proofs.FileRows.{isRefusal}
 
 -- n records have come, and there is room for one more
 pub record Reached (n : ℕ) (st : Running) : Type 0 where

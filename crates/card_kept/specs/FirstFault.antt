@@ -16,14 +16,13 @@ use Rattle.card_record.specs.Reading.{kindRules, rightReading}
 use Rattle.card_run.specs.declared.stage.Stage.{Stage}
 use Rattle.card_run.specs.declared.stage.Stage.the-variants.{Start, BetweenBatches, InBatch, Ended, Closed, Refused}
 use Rattle.card_run.specs.declared.running.Running.{Running}
-use Rattle.card_run.specs.declared.answer.CardAnswer.{CardAnswer}
-use Rattle.card_run.specs.declared.answer.CardAnswer.the-variants.{GoingOn, Accepted as accepted, Refused as refused}
 use Rattle.card_run.specs.Running.{openOf, nextNumber}
 use Rattle.card_step.specs.Rules.{placedRules}
 use Rattle.card_file.specs.Feeding.{fedOf}
-use Rattle.card_run.specs.Answer.{answerOf}
+use Rattle.card_run.specs.Answer.{answerOf, refusedRow, cardFileRow}
 use Rattle.card_file.specs.CardFile.{lineOf, linesOf, checkOf}
 use Rattle.refusal.specs.Nowhere.{nowhere}
+use Rattle.refusal.specs.Row.{noRefusal}
 
 -- whether A9 has come
 abbrev pub ended : Stage → Bool
@@ -55,17 +54,6 @@ rulesFromKind st r = kindRule (kindOf r) ∷ rulesAs (kindOf r) st r
 abbrev pub rulesAt : Running → List ℕ → List Rule
 rulesAt st r = endRule st ∷ rulesFromKind st r
 
--- whether an answer is a refusal
-abbrev pub isRefusal : CardAnswer → Bool
-isRefusal GoingOn = false
-isRefusal (accepted a) = false
-isRefusal (refused r) = true
-
-abbrev pub isAccepted : CardAnswer → Bool
-isAccepted GoingOn = false
-isAccepted (accepted a) = true
-isAccepted (refused r) = false
-
 -- a refusal at the record that comes next: the first rule that is broken gives its cause and its column
 pub record RefusedBy (st : Running) (rules : List Rule) (refusal : Refusal) : Type 0 where
   pub number : refusal .«record» ≡ nextNumber st
@@ -74,9 +62,9 @@ pub record RefusedBy (st : Running) (rules : List Rule) (refusal : Refusal) : Ty
 -- a record fed to a state that is not refused: "the first fault" decides, and nothing else
 pub record FirstFaultOfRecord (st : Running) (r : List ℕ) : Type 0 where
   -- it is refused exactly where a rule is broken, by the first of them
-  pub is-refused : (refusal : Refusal) → (answerOf (fedOf st r) ≡ refused refusal) ↔ RefusedBy st (rulesAt st r) refusal
+  pub is-refused : (refusal : Refusal) → (cardFileRow (answerOf (fedOf st r)) ≡ refusedRow refusal) ↔ RefusedBy st (rulesAt st r) refusal
   -- "No refusal is given otherwise"
-  pub is-not : (isRefusal (answerOf (fedOf st r)) ≡ false) ↔ (allHold (rulesAt st r) ≡ true)
+  pub is-not : (cardFileRow (answerOf (fedOf st r)) .refusal ≡ noRefusal) ↔ (allHold (rulesAt st r) ≡ true)
 
 -- what comes next in a file: a piece that an LF ends, or what is left behind the last LF
 pub data Next : Type 0 where
@@ -119,9 +107,9 @@ pub record AllHoldInFile (edition : ℕ) (file : List ℕ) : Type 0 where
 
 -- "Order: 1, then ..": whatever the file is
 abbrev pub EditionFirst : ℕ → Type 0
-EditionFirst edition = (file : List ℕ) → checkOf edition file ≡ refused (nowhere EditionUnknown)
+EditionFirst edition = (file : List ℕ) → cardFileRow (checkOf edition file) ≡ refusedRow (nowhere EditionUnknown)
 
 -- a file read whole under an edition that is known: the first fault decides, and nothing else
 pub record FirstFaultDecides (edition : ℕ) (file : List ℕ) : Type 0 where
-  pub is-refused : (refusal : Refusal) → (checkOf edition file ≡ refused refusal) ↔ FirstFaultOfFile edition file refusal
-  pub is-accepted : (isAccepted (checkOf edition file) ≡ true) ↔ AllHoldInFile edition file
+  pub is-refused : (refusal : Refusal) → (cardFileRow (checkOf edition file) ≡ refusedRow refusal) ↔ FirstFaultOfFile edition file refusal
+  pub is-accepted : (cardFileRow (checkOf edition file) .accepted ≡ true) ↔ AllHoldInFile edition file

@@ -42,7 +42,7 @@ unfoldable pub SalesKept : ℕ → ℕ → List (List ℕ) → Type 0
 SalesKept edition number [] = Unit {0}
 SalesKept edition number (r ∷ rs) = CvKept edition number r × SalesKept edition (suc number) rs
 
--- a batch keeps them, from the number of its L0 on
+-- a batch keeps them, from the number of its L0 on; what its L9 counts and sums is "the CV records of the batch (L9)"
 pub record BatchKept (edition number : ℕ) (b : Batch) : Type 0 where
   pub l0 : L0Kept edition number (b .l0)
   pub sales : SalesKept edition (suc number) (b .sales)
@@ -52,7 +52,7 @@ unfoldable pub BatchesKept : ℕ → ℕ → List Batch → Type 0
 BatchesKept edition number [] = Unit {0}
 BatchesKept edition number (b ∷ bs) = BatchKept edition number b × BatchesKept edition (number + length (batchRecords b)) bs
 
--- a file keeps them: NSEQ counts up from 1
+-- a file keeps them: NSEQ counts up from 1; it has six digits, so "A millionth record is refused by 9"
 pub record FileKept (edition : ℕ) (f : File) : Type 0 where
   pub a0 : A0Kept edition 1 (f .a0)
   pub batches : BatchesKept edition 2 (f .batches)

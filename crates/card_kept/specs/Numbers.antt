@@ -7,7 +7,8 @@ use Rattle.card_kept.specs.Fields.{numberAt}
 use Rattle.card_kept.specs.Sale.{payableGross, payableDiscount, payableNet}
 use Rattle.card_kept.specs.Kept.{File, recordsOf, sumOver, salesOf}
 
--- what an accepted file's numbers say of its records
+-- what an accepted file's numbers say of its records: "An accepted file answers: A0 date, movement, records, batches, sales (CV records), and the totals of payable gross,
+-- discount and net over all CV"
 pub record Numbers (f : File) (a : Accepted) : Type 0 where
   pub date : a .date ≡ numberAt 9 16 (f .a0)
   pub movement : a .movement ≡ numberAt 23 28 (f .a0)

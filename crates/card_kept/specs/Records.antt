@@ -28,7 +28,7 @@ use Rattle.card_kept.specs.Sale.{
   instalmentNet,
 }
 
--- a record of a kind: its name, its width, its fields, and NSEQ is its number; it holds no LF, at which the file is cut
+-- a record of a kind: its name, its width, its fields, and "NSEQ equals the record's number"; it holds no LF, at which the file is cut
 pub record RecordOf (name : String) (width : ℕ) (table : List Field) (first last : ℕ) (edition number : ℕ) (r : List ℕ) : Type 0 where
   pub named : positions 1 2 r ≡ ascii name
   pub wide : length r ≡ width
@@ -62,13 +62,13 @@ pub record CvKept (edition number : ℕ) (r : List ℕ) : Type 0 where
   pub sale-agrees : saleGross r ≡ saleDiscount r + saleNet r
   pub paid : NoInstalment r ⊎ Instalment r
 
--- a trailer of a batch of so many sales with such a sum of payable gross
+-- a trailer of a batch of so many sales with such a sum of payable gross, as whole numbers: "A sum too large for its field equals none"
 pub record L9Kept (sales gross : ℕ) (edition number : ℕ) (r : List ℕ) : Type 0 where
   pub kind : RecordOf "L9" 28 l9Table 23 28 edition number r
   pub counts : numberAt 3 8 r ≡ sales
   pub sums : numberAt 9 22 r ≡ gross
 
--- the trailer of a file: it counts every record of it, and so its own number
+-- the trailer of a file: it counts "every record of the file (a count in A9)", and so its own number
 pub record A9Kept (edition number : ℕ) (r : List ℕ) : Type 0 where
   pub kind : RecordOf "A9" 14 a9Table 9 14 edition number r
   pub counts : numberAt 3 8 r ≡ number

@@ -21,17 +21,14 @@ use Rattle.card_mask.specs.Masked.{maskedPiece, maskedFile, finishedIn}
 use Rattle.card_mask.specs.InChunks.{Copied, nothingCopied, copiedOver}
 use Rattle.card_mask.proofs.Pieces.{piece-length}
 
--- masking keeps the length of lines
-lines-length : (ps : List (List ℕ)) → length (rejoined (map maskedPiece ps) []) ≡ length (rejoined ps [])
+-- masking keeps the length of lines and of what stands behind them
+pub lines-length : (ps : List (List ℕ)) (rest : List ℕ) → length (rejoined (map maskedPiece ps) rest) ≡ length (rejoined ps rest)
 unfolding rejoined
-lines-length [] = refl
-lines-length (p ∷ ps) =
-    let next = rejoined ps [] in
-    let after = rejoined (map maskedPiece ps) [] in
-    let rest : length after ≡ length next = lines-length ps in
-    length-append (maskedPiece p) (lf ∷ after) ∙
-    ap₂ (λ (m n : ℕ). m + suc n) (piece-length p) rest ∙
-    sym (length-append p (lf ∷ next))
+lines-length [] rest = refl
+lines-length (p ∷ ps) rest =
+    length-append (maskedPiece p) (lf ∷ rejoined (map maskedPiece ps) rest) ∙
+    ap₂ (λ (m n : ℕ). m + suc n) (piece-length p) (lines-length ps rest) ∙
+    sym (length-append p (lf ∷ rejoined ps rest))
 
 -- the masked lines stand in front, and the rest behind them
 lines-then-rest : (s : List ℕ) → maskedFile s ≡ rejoined (map maskedPiece (cut s .pieces)) [] ++ cut s .rest
@@ -39,11 +36,11 @@ lines-then-rest s = sym (rejoined-behind (map maskedPiece (cut s .pieces)) [] (c
 
 finished-part : (s : List ℕ) → take (finishedIn s) (maskedFile s) ≡ rejoined (map maskedPiece (cut s .pieces)) []
 finished-part s =
-    ap (take (finishedIn s)) (lines-then-rest s) ∙ take-at (rejoined (map maskedPiece (cut s .pieces)) []) (cut s .rest) (finishedIn s) (lines-length (cut s .pieces))
+    ap (take (finishedIn s)) (lines-then-rest s) ∙ take-at (rejoined (map maskedPiece (cut s .pieces)) []) (cut s .rest) (finishedIn s) (lines-length (cut s .pieces) [])
 
 waiting-part : (s : List ℕ) → drop (finishedIn s) (maskedFile s) ≡ cut s .rest
 waiting-part s =
-    ap (drop (finishedIn s)) (lines-then-rest s) ∙ drop-at (rejoined (map maskedPiece (cut s .pieces)) []) (cut s .rest) (finishedIn s) (lines-length (cut s .pieces))
+    ap (drop (finishedIn s)) (lines-then-rest s) ∙ drop-at (rejoined (map maskedPiece (cut s .pieces)) []) (cut s .rest) (finishedIn s) (lines-length (cut s .pieces) [])
 
 -- what is written and what waits, once these bytes have come
 copyOf : Lines → Copied

@@ -12,7 +12,7 @@ use Rattle.card_mask.specs.Masked.{maskedFile}
 abbrev pub maskAnswer : ℕ → List ℕ → ℕ → CardAnswer
 maskAnswer edition file room = answerWithRoom edition file (length file) room
 
--- of an accepted file "the masked copy"; "output past the file's length is unchanged"; refused, all of it is
+-- of an accepted file "the masked copy"; "output past the file's length is unchanged"; refused, "lent output is unchanged"
 unfoldable pub maskedInto : CardAnswer → List ℕ → List ℕ → List ℕ
 maskedInto GoingOn file out = out
 maskedInto (Accepted a) file out = maskedFile file ++ drop (length file) out

@@ -1,4 +1,4 @@
--- "card part": where the card stands in a record, by its kind and its width.
+-- "the card's part": where the card stands in a record, by its kind and its width.
 use Prim.Native.Nat.{ℕ, _+_}
 use mathlib.Core.List.{List}
 use mathlib.Core.Bool.{cond}

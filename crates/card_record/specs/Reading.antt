@@ -29,7 +29,7 @@ use Rattle.card_record.specs.declared.reading.Reading.the-variants.{
 }
 use Rattle.card_record.specs.Kind.{kindOf}
 
--- "Each kind has a width and field table that belong to it alone"
+-- "Each kind has a width and field table that belong to it alone"; of L9 and A9 "the last printed position is the width"
 abbrev pub widthOf : Kind → ℕ
 widthOf A0 = 75
 widthOf L0 = 18

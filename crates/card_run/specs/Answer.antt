@@ -1,11 +1,14 @@
 -- The answer of a card file, and the row that document 01 gives for each.
-use Prim.Native.Nat.{ℕ}
-use Rattle.refusal.specs.RefusalList.{numberOf}
+use mathlib.Core.Bool.{Bool, true, false}
+use Rattle.refusal.specs.declared.Refusal.{Refusal}
+use Rattle.refusal.specs.Row.{RefusalRow, noRefusal, refusalRow}
 use Rattle.card_run.specs.declared.stage.Stage.{Stage}
 use Rattle.card_run.specs.declared.stage.Stage.the-variants.{Start, BetweenBatches, InBatch, Ended, Closed, Refused}
 use Rattle.card_run.specs.declared.running.Running.{Running}
+use Rattle.card_run.specs.declared.answer.Accepted.{Accepted as Numbers}
 use Rattle.card_run.specs.declared.answer.CardAnswer.{CardAnswer}
 use Rattle.card_run.specs.declared.answer.CardAnswer.the-variants.{GoingOn, Accepted, Refused as refused}
+use Rattle.card_run.specs.Running.{noNumbers}
 
 -- the answer at a stage: the refusal, the file's numbers once it is closed, or none yet
 unfoldable pub answerAt : Stage → Running → CardAnswer
@@ -19,49 +22,21 @@ answerAt (Refused r) st = refused r
 abbrev pub answerOf : Running → CardAnswer
 answerOf st = answerAt (st .stage) st
 
--- the paper's row: the refusal's number, record and column, and the file's counts and totals
-pub record Row : Type 0 where
-  pub number : ℕ
-  pub record-number : ℕ
-  pub column : ℕ
-  pub date : ℕ
-  pub movement : ℕ
-  pub records : ℕ
-  pub batches : ℕ
-  pub sales : ℕ
-  pub gross : ℕ
-  pub discount : ℕ
-  pub net : ℕ
+-- the paper's row of a card file's answer: whether the file is accepted, the refusal's number, record and column, and the file's numbers
+pub record CardFileRow : Type 0 where
+  pub accepted : Bool
+  pub refusal : RefusalRow
+  pub numbers : Numbers
 
--- "All counts and totals in a refused answer are zero"; an accepted file has no refusal's number, and one that goes on has neither
-unfoldable pub rowOf : CardAnswer → Row
-rowOf GoingOn =
-    record { number = 0; record-number = 0; column = 0; date = 0; movement = 0; records = 0; batches = 0; sales = 0; gross = 0; discount = 0; net = 0 }
-rowOf (Accepted a) =
-    record {
-      number = 0;
-      record-number = 0;
-      column = 0;
-      date = a .date;
-      movement = a .movement;
-      records = a .records;
-      batches = a .batches;
-      sales = a .totals .sales;
-      gross = a .totals .amounts .gross;
-      discount = a .totals .amounts .discount;
-      net = a .totals .amounts .net;
-    }
-rowOf (refused r) =
-    record {
-      number = numberOf (r .cause);
-      record-number = r .«record»;
-      column = r .column;
-      date = 0;
-      movement = 0;
-      records = 0;
-      batches = 0;
-      sales = 0;
-      gross = 0;
-      discount = 0;
-      net = 0;
-    }
+-- none yet: neither a refusal nor numbers
+abbrev pub goingOnRow : CardFileRow
+goingOnRow = record { accepted = false; refusal = noRefusal; numbers = noNumbers }
+
+-- "All counts and totals in a refused answer are zero"; "a refused answer has zeros for all"
+abbrev pub refusedRow : Refusal → CardFileRow
+refusedRow r = record { accepted = false; refusal = refusalRow r; numbers = noNumbers }
+
+unfoldable pub cardFileRow : CardAnswer → CardFileRow
+cardFileRow GoingOn = goingOnRow
+cardFileRow (Accepted a) = record { accepted = true; refusal = noRefusal; numbers = a }
+cardFileRow (refused r) = refusedRow r

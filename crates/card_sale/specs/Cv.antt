@@ -16,31 +16,31 @@ use Rattle.card_sale.specs.declared.cv.Cv.{Cv}
 -- the fields behind the kind; "Amounts are eleven digits, in centavos"
 abbrev pub cvTable : List Field
 cvTable =
-    field 3 17 Text ∷  -- store
-    field 18 29 Digits ∷  -- NSU
-    field 30 37 Day ∷  -- date
-    field 38 43 Time ∷  -- time
-    field 44 44 (OneOf LaunchType) ∷  -- launch type
-    field 45 52 Day ∷  -- launch date
-    field 53 53 (OneOf Product) ∷  -- product
-    field 54 54 (OneOf Capture) ∷  -- capture
-    field 55 65 Digits ∷  -- sale gross
-    field 66 76 Digits ∷  -- discount
-    field 77 87 Digits ∷  -- net
-    field 88 106 Card ∷  -- card
-    field 107 108 Digits ∷  -- instalment
-    field 109 110 Digits ∷  -- instalments
-    field 111 122 Digits ∷  -- instalment NSU
-    field 123 133 Digits ∷  -- instalment gross
-    field 134 144 Digits ∷  -- discount
-    field 145 155 Digits ∷  -- net
-    field 156 158 Digits ∷  -- bank
-    field 159 164 Digits ∷  -- branch
-    field 165 175 Text ∷  -- account
-    field 176 187 Digits ∷  -- authorisation
-    field 188 190 Text ∷  -- brand
-    field 191 193 Text ∷  -- product code
-    field 194 199 Digits ∷  -- NSEQ
+    field 3 17 Text ∷  -- "store 3-17 AN"
+    field 18 29 Digits ∷  -- "NSU 18-29 N"
+    field 30 37 Day ∷  -- "date 30-37"
+    field 38 43 Time ∷  -- "time 38-43"
+    field 44 44 (OneOf LaunchType) ∷  -- "launch type 44"
+    field 45 52 Day ∷  -- "launch date 45-52"
+    field 53 53 (OneOf Product) ∷  -- "product 53"
+    field 54 54 (OneOf Capture) ∷  -- "capture 54"
+    field 55 65 Digits ∷  -- "sale gross 55-65"
+    field 66 76 Digits ∷  -- "discount 66-76"
+    field 77 87 Digits ∷  -- "net 77-87"
+    field 88 106 Card ∷  -- "card 88-106"
+    field 107 108 Digits ∷  -- "instalment 107-108"
+    field 109 110 Digits ∷  -- "instalments 109-110"
+    field 111 122 Digits ∷  -- "instalment NSU 111-122 N"
+    field 123 133 Digits ∷  -- "instalment gross 123-133"
+    field 134 144 Digits ∷  -- "discount 134-144"
+    field 145 155 Digits ∷  -- "net 145-155"
+    field 156 158 Digits ∷  -- "bank 156-158 N"
+    field 159 164 Digits ∷  -- "branch 159-164 N"
+    field 165 175 Text ∷  -- "account 165-175 AN"
+    field 176 187 Digits ∷  -- "authorisation 176-187 N"
+    field 188 190 Text ∷  -- "brand 188-190 AN"
+    field 191 193 Text ∷  -- "product code 191-193 AN"
+    field 194 199 Digits ∷  -- "NSEQ 194-199"
     []
 
 abbrev pub saleAmounts : List ℕ → Amounts

@@ -18,7 +18,7 @@ sheetFrom edition a =
 abbrev pub sheetAnswer : ℕ → List ℕ → ℕ → CardAnswer
 sheetAnswer edition file room = answerWithRoom edition file 52 room
 
--- what the output then holds
+-- what the output then holds; refused, "lent output is unchanged"
 unfoldable pub sheetInto : ℕ → CardAnswer → List ℕ → List ℕ
 sheetInto edition GoingOn out = out
 sheetInto edition (Accepted a) out = bytesOf (sheetFrom edition a) ++ drop 52 out

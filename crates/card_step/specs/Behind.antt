@@ -1,4 +1,5 @@
--- The state behind a record that keeps the rules: "A0 date, movement, records, batches, sales (CV records), and the totals of payable gross, discount and net".
+-- The state behind a record that keeps the rules. "An accepted file answers: A0 date, movement, records, batches, sales (CV records), and the totals of payable gross,
+-- discount and net over all CV".
 use Rattle.totals.specs.declared.amounts.Totals.{Totals}
 use Rattle.totals.specs.Sum.{capped}
 use Rattle.totals.specs.Amounts.{oneSale, addedTotals}

@@ -1,4 +1,4 @@
--- The rules of a record at its place, in document 01's order: "4, 5, 6, single fields by position .., then the joined rules".
+-- The rules of a record at its place, in document 01's order: "4, 5, 6, single fields by position .., then the joined rules in the order below".
 use Prim.Native.Nat.{ℕ}
 use mathlib.Core.List.{List, [], _∷_, _++_}
 use mathlib.Core.Bool.{false}
@@ -26,15 +26,17 @@ use Rattle.card_run.specs.Running.{nextNumber}
 abbrev pub placeRule : Running → Kind → Rule
 placeRule st kind = ruleAt KindNotAllowedHere 0 (placed (st .stage) kind)
 
--- "NSEQ equals the record's number (9)"
+-- "NSEQ equals the record's number (9)"; it has six digits: "A millionth record is refused by 9, unless an earlier rule refuses it"
 abbrev pub nseqRule : Running → ℕ → ℕ → Rule
 nseqRule st column nseq = ruleAt SequenceWrong column (eqb nseq (nextNumber st))
 
--- "trailer fields by position (11)"
+-- "trailer fields by position (11)": "A field there that counts or sums must equal what its printed description says".
+-- "A sum too large for its field equals none": it is a whole number, or the top of 64 bits, which has twenty digits, and a field has at most fourteen
 abbrev pub trailerRule : ℕ → ℕ → ℕ → Rule
 trailerRule column said is = ruleAt TrailerDisagrees column (eqb said is)
 
--- the joined rules of a record whose width and fields are right, in order; "Their NSEQ is checked like the others", of L9 and A9
+-- "Joined rules, in order", of a record whose width and fields are right; of L9 and A9 "Their NSEQ is checked like the others"; "where that names no set, the set is the CV
+-- records of the batch (L9), every record of the file (a count in A9) or every CV of it (a sum in A9)", of which A9 has none
 unfoldable pub joinedAt : Running → Reading → List Rule
 joinedAt st unknown = []
 joinedAt st (faulty kind cause column) = []

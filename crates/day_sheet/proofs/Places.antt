@@ -11,7 +11,8 @@ use Rattle.text.specs.Alphabet.{holdsOnly}
 use Rattle.text.proofs.Alphabets.{both-left, both-right, in-a-row}
 use Rattle.day_sheet.specs.declared.sheet.Sheet.{Sheet}
 use Rattle.day_sheet.specs.Number.{base, zeroByte, inBase, valueIn}
-use Rattle.day_sheet.specs.Layout.{Place, bytes, version1, inPlaces, fromPlaces, bytesOf, frontBytes, restBytes}
+use Rattle.day_sheet.specs.Layout.{Place, bytes, version1, inPlaces, fromPlaces, bytesOf}
+use Rattle.day_sheet.specs.Halves.{frontBytes, restBytes}
 use Rattle.day_sheet.proofs.Filling.{Filled}
 use Rattle.day_sheet.specs.Reading.{numbersIn, dateAndMovement}
 

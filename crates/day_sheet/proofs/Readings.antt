@@ -12,7 +12,8 @@ use Rattle.text.specs.Alphabet.{holdsOnly}
 use Rattle.day_sheet.specs.declared.reader.SheetRead.the-variants.{Read, Refused}
 use Rattle.day_sheet.specs.Number.{bytesValue}
 use Rattle.day_sheet.specs.Sheet.{sheetAllowed}
-use Rattle.day_sheet.specs.Reading.{nowhere, numbersIn, dateAndMovement, sheetIn, readNumbers}
+use Rattle.refusal.specs.Nowhere.{nowhere}
+use Rattle.day_sheet.specs.Reading.{numbersIn, dateAndMovement, sheetIn, readNumbers}
 use Rattle.day_sheet.proofs.Places.{in-sheet}
 
 -- the version's two bytes hold 1

@@ -19,7 +19,7 @@ bytes width = record { width = width; form = Bytes }
 abbrev pub digits : ℕ → Place
 digits width = record { width = width; form = Digits }
 
--- the numbers behind the mark "DSH"
+-- "52 bytes, numbers high byte first: "DSH"", and behind that mark
 abbrev pub version1 : List Place
 version1 =
     bytes 2 ∷  -- "version, 16 bits"
@@ -67,10 +67,3 @@ fromPlaces (p ∷ ps) s = valueIn (base (p .form)) (zeroByte (p .form)) 0 (take 
 -- the bytes of a sheet
 abbrev pub bytesOf : Sheet → List ℕ
 bytesOf s = ascii "DSH" ++ inPlaces version1 (numbersOf s)
-
--- the bytes up to the batches, and from them on
-abbrev pub frontBytes : Sheet → List ℕ
-frontBytes s = ascii "DSH" ++ inPlaces (take 4 version1) (take 4 (numbersOf s))
-
-abbrev pub restBytes : Sheet → List ℕ
-restBytes s = inPlaces (drop 4 version1) (drop 4 (numbersOf s))

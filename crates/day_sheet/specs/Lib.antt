@@ -1,5 +1,6 @@
 pub mod Number
 pub mod Sheet
 pub mod Layout
+pub mod Halves
 pub mod Reading
 pub mod Answer

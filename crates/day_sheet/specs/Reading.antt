@@ -5,9 +5,8 @@ use mathlib.Core.List.{List, _++_}
 use mathlib.Core.Bool.{Bool, cond, _&&_}
 use lib.ListN.{length, take, drop, getD}
 use lib.Dec.{leb, eqb}
-use Rattle.refusal.specs.declared.Cause.{Cause}
 use Rattle.refusal.specs.declared.Cause.the-variants.{OutputTooShort, NotADaySheet, SheetVersionUnknown, SheetNumbersNotAllowed}
-use Rattle.refusal.specs.declared.Refusal.{Refusal}
+use Rattle.refusal.specs.Nowhere.{nowhere}
 use Rattle.text.specs.declared.alphabet.Alphabet.the-variants.{Digits}
 use Rattle.text.specs.Alphabet.{holdsOnly}
 use Rattle.text.specs.Literal.{ascii, sameBytes}
@@ -18,10 +17,6 @@ use Rattle.day_sheet.specs.declared.writer.SheetWritten.{SheetWritten}
 use Rattle.day_sheet.specs.declared.writer.SheetWritten.the-variants.{Written, Refused as notWritten}
 use Rattle.day_sheet.specs.Sheet.{sheetAllowed}
 use Rattle.day_sheet.specs.Layout.{version1, sheetOf, fromPlaces, bytesOf}
-
--- a refusal "0, 0"
-abbrev pub nowhere : Cause → Refusal
-nowhere cause = record { cause = cause; «record» = 0; column = 0 }
 
 -- 52 bytes with the mark
 abbrev pub isMarked : List ℕ → Bool

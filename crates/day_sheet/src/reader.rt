@@ -3,7 +3,8 @@ ghost use mathlib.Core.Path.{_≡_};
 ghost use mathlib.Core.Bool.{true};
 ghost use lib.ListN.{length};
 ghost use Rattle.text.specs.Alphabet.{holdsOnly};
-ghost use Rattle.day_sheet.specs.Reading.{nowhere, isMarked, dateAndMovement, sheetIn, readNumbers, readOf};
+ghost use Rattle.refusal.specs.Nowhere.{nowhere};
+ghost use Rattle.day_sheet.specs.Reading.{isMarked, dateAndMovement, sheetIn, readNumbers, readOf};
 use crate::layout;
 use crate::number::value_of_bytes;
 use crate::sheet::Sheet;
@@ -22,11 +23,7 @@ pub enum SheetRead {
 fn refused(cause: Cause) -> SheetRead
     ensures { λ r. ⌜ r ≡ SheetRead.Refused (nowhere cause) ⌝ }
 {
-    SheetRead::Refused(Refusal {
-        cause,
-        record: 0,
-        column: 0,
-    })
+    SheetRead::Refused(Refusal::nowhere(cause))
 }
 
 // Whether the bytes are as many as a sheet has, with its mark in front.

@@ -3,7 +3,8 @@ ghost use mathlib.Core.Path.{_≡_};
 ghost use mathlib.Core.List.{_++_};
 ghost use Prim.Native.Nat.{_≤_};
 ghost use lib.ListN.{length, take, drop};
-ghost use Rattle.day_sheet.specs.Layout.{frontBytes, restBytes, bytesOf};
+ghost use Rattle.day_sheet.specs.Layout.{bytesOf};
+ghost use Rattle.day_sheet.specs.Halves.{frontBytes, restBytes};
 ghost use Rattle.day_sheet.specs.Reading.{Writes};
 use crate::layout;
 use crate::number::Form;
@@ -56,18 +57,10 @@ pub fn write(sheet: Sheet, out: &mut [u8]) -> SheetWritten
     ensures { λ r. ⌜ Writes sheet (now (out .entry)) r (now (out .exit)) ⌝ }
 {
     if !sheet.is_allowed() {
-        return SheetWritten::Refused(Refusal {
-            cause: Cause::SheetNumbersNotAllowed,
-            record: 0,
-            column: 0,
-        });
+        return SheetWritten::Refused(Refusal::nowhere(Cause::SheetNumbersNotAllowed));
     }
     if out.len() < layout::WIDTH {
-        return SheetWritten::Refused(Refusal {
-            cause: Cause::OutputTooShort,
-            record: 0,
-            column: 0,
-        });
+        return SheetWritten::Refused(Refusal::nowhere(Cause::OutputTooShort));
     }
     fill(sheet, out);
     SheetWritten::Written

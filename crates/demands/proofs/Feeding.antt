@@ -3,11 +3,14 @@
 use Prim.Native.Nat.{ℕ, suc, _+_, _≤_, _<_}
 use mathlib.Core.Path.{_≡_, refl, sym, _∙_, ap, subst}
 use mathlib.Core.List.{List, [], _∷_, _++_, map}
-use mathlib.Core.Bool.{true, false}
+use mathlib.Core.Bool.{Bool, true, false, cond}
 use native.Mathlib.Omega.{arith}
 use lib.ListN.{length}
-use borrow.Author.Tests.{le-leb, lt-leb}
+use lib.Dec.{leb}
+use borrow.Author.Tests.{le-leb, lt-leb, ne-eqb}
 use Rattle.refusal.specs.declared.Refusal.{Refusal}
+use Rattle.refusal.specs.RefusalList.{numberOf}
+use Rattle.refusal.proofs.RefusalList.{from-one}
 use Rattle.lines.specs.Lines.{allNoLf, joined}
 use Rattle.lines.proofs.Cuts.{cut-joined}
 use Rattle.edition.specs.Known.{known}
@@ -16,11 +19,12 @@ use Rattle.card_run.specs.declared.stage.Stage.{Stage}
 use Rattle.card_run.specs.declared.stage.Stage.the-variants.{Start, BetweenBatches, InBatch, Ended, Closed, Refused}
 use Rattle.card_run.specs.declared.running.Running.{Running}
 use Rattle.card_run.specs.declared.answer.Accepted.{Accepted as AcceptedFile}
+use Rattle.card_run.specs.declared.answer.CardAnswer.{CardAnswer}
 use Rattle.card_run.specs.declared.answer.CardAnswer.the-variants.{GoingOn, Accepted as accepted, Refused as refused}
 use Rattle.card_run.specs.Running.{openOf, nextNumber, closedAt, closedOf, lateAt}
 use Rattle.card_step.specs.Step.{tookAt}
 use Rattle.card_file.specs.Feeding.{fedOf, fedAll}
-use Rattle.card_run.specs.Answer.{answerAt, answerOf}
+use Rattle.card_run.specs.Answer.{answerAt, answerOf, goingOnRow, refusedRow, cardFileRow}
 use Rattle.card_file.specs.CardFile.{lineOf, linesOf, endOf, ranOf, checkOf}
 use Rattle.demands.specs.Feeding.{upTo, FedAsWhole, RefusedForGood, BadEdition, Call, feed, close, called, afterTheEnd, AfterAcceptedClose, OnePastTheLast}
 use Rattle.card_kept.proofs.Stays as stays
@@ -33,39 +37,58 @@ unfolding endOf
 whole edition rs e =
     sym (ap (λ ls. answerOf (ranOf (openOf edition) ls)) (cut-joined rs e) ∙ ap (λ st. answerOf (closedOf st)) (lines-are (openOf edition) rs))
 
+-- the refusal up to the k-th record, of an answer
+abbrev soFar : ℕ → CardAnswer → CardAnswer
+soFar k GoingOn = GoingOn
+soFar k (accepted a) = GoingOn
+soFar k (refused x) = cond (leb (x .«record») k) (refused x) GoingOn
+
+-- as the row tells
+row-so-far : (k : ℕ) (answer : CardAnswer) → cardFileRow (soFar k answer) ≡ upTo k (cardFileRow answer)
+unfolding cardFileRow
+row-so-far k GoingOn = refl
+row-so-far k (accepted a) = refl
+row-so-far k (refused x) =
+    let some : numberOf (x .cause) ≡ 0 → ⊥ = λ e. omega (arith, from-one (x .cause)) in
+    by (leb (x .«record») k) ∙ sym (rw (ne-eqb (numberOf (x .cause)) 0 some))
+  where
+    by : (t : Bool) → cardFileRow (cond t (refused x) GoingOn) ≡ cond t (refusedRow x) goingOnRow
+    by true = refl
+    by false = refl
+
 -- a refusal is given from its record on, and not before
-given : (k : ℕ) (x : Refusal) → x .«record» ≤ k → refused x ≡ upTo k (refused x)
+given : (k : ℕ) (x : Refusal) → x .«record» ≤ k → refused x ≡ soFar k (refused x)
 given k x h = rw (le-leb (x .«record») k h)
 
-not-yet : (k : ℕ) (x : Refusal) → k < x .«record» → GoingOn ≡ upTo k (refused x)
+not-yet : (k : ℕ) (x : Refusal) → k < x .«record» → GoingOn ≡ soFar k (refused x)
 not-yet k x h = rw (lt-leb (x .«record») k h)
 
 -- a run refused from the record behind the k-th on, or not at all, has no refusal up to the k-th when it is closed
-closed-later : (k n : ℕ) (st : Running) → k ≤ n → Stands (suc k) n st → GoingOn ≡ upTo k (answerOf (closedOf st))
+closed-later : (k n : ℕ) (st : Running) → k ≤ n → Stands (suc k) n st → GoingOn ≡ soFar k (answerOf (closedOf st))
 unfolding closedAt answerAt
 closed-later k n st low = by (st .stage) refl
   where
-    by : (s : Stage) → st .stage ≡ s → StandsAt (suc k) n s st → GoingOn ≡ upTo k (answerOf (closedAt s st))
+    by : (s : Stage) → st .stage ≡ s → StandsAt (suc k) n s st → GoingOn ≡ soFar k (answerOf (closedAt s st))
     by Start e h = not-yet k _ (omega (arith, next-number st n h))
     by BetweenBatches e h = not-yet k _ (omega (arith, next-number st n h))
     by InBatch e h = not-yet k _ (omega (arith, next-number st n h))
     by Ended e h = refl
     by Closed e h = absurd h
-    by (Refused x) e h = not-yet k x (h .0) ∙ ap (upTo k) (sym (stays.answer-of st x e))
+    by (Refused x) e h = not-yet k x (h .0) ∙ ap (soFar k) (sym (stays.answer-of st x e))
 
 -- after k records: the refusal up to there, of what the rest leads to
-after : (k : ℕ) (st : Running) (left : List (List ℕ)) → Stands 0 k st → answerOf st ≡ upTo k (answerOf (closedOf (fedAll st left)))
+after : (k : ℕ) (st : Running) (left : List (List ℕ)) → Stands 0 k st → answerOf st ≡ soFar k (answerOf (closedOf (fedAll st left)))
 unfolding answerAt
 after k st left = by (st .stage) refl
   where
     later : (s : Stage) → st .stage ≡ s → answerAt s st ≡ GoingOn → StandsAt (suc k) k s st →
-        answerOf st ≡ upTo k (answerOf (closedOf (fedAll st left)))
+        answerOf st ≡ soFar k (answerOf (closedOf (fedAll st left)))
     later s e going h =
         ap (λ s. answerAt s st) e ∙ going ∙
         closed-later k (k + length left) (fedAll st left) (omega arith)
         (fed-all (suc k) k st left (omega arith) (subst (λ s. StandsAt (suc k) k s st) (sym e) h))
 
-    by : (s : Stage) → st .stage ≡ s → StandsAt 0 k s st → answerOf st ≡ upTo k (answerOf (closedOf (fedAll st left)))
+    by : (s : Stage) → st .stage ≡ s → StandsAt 0 k s st → answerOf st ≡ soFar k (answerOf (closedOf (fedAll st left)))
     by Start e h = later Start e refl h
     by BetweenBatches e h = later BetweenBatches e refl h
     by InBatch e h = later InBatch e refl h
@@ -74,19 +97,21 @@ after k st left = by (st .stage) refl
     by (Refused x) e h =
         let kept : closedOf (fedAll st left) ≡ st = ap closedOf (stays.fed-all x st left e) ∙ stays.closed x st e in
         let is : answerOf st ≡ refused x = stays.answer-of st x e in
-        is ∙ given k x (h .1) ∙ ap (upTo k) (sym (ap answerOf kept ∙ is))
+        is ∙ given k x (h .1) ∙ ap (soFar k) (sym (ap answerOf kept ∙ is))
 
 -- THE THEOREM: "Equality with the whole holds for records without LF"
 pub fed-as-whole : (edition : ℕ) (records : List (List ℕ)) → allNoLf records ≡ true → FedAsWhole edition records
 fed-as-whole edition records clear =
     record {
-      closed = whole edition records clear;
+      closed = ap cardFileRow (whole edition records clear);
       after-each = λ fed left split.
           let st = fedAll (openOf edition) fed in
           let all : fedAll (openOf edition) records ≡ fedAll st left = ap (fedAll (openOf edition)) split ∙ fed-row (openOf edition) fed left in
-          after (length fed) st left (fed-open edition fed) ∙
-          ap (λ next. upTo (length fed) (answerOf (closedOf next))) (sym all) ∙
-          ap (upTo (length fed)) (whole edition records clear);
+          ap cardFileRow
+          (after (length fed) st left (fed-open edition fed) ∙
+          ap (λ next. soFar (length fed) (answerOf (closedOf next))) (sym all) ∙
+          ap (soFar (length fed)) (whole edition records clear)) ∙
+          row-so-far (length fed) (checkOf edition (joined records));
     }
 
 called-all : (x : Refusal) (st : Running) (calls : List Call) → st .stage ≡ Refused x → called st calls ≡ st
@@ -97,7 +122,8 @@ called-all x st (close ∷ calls) e = ap (λ next. called next calls) (stays.clo
 
 -- "Once refused, every later call gives that same refusal", in every state
 pub refused-for-good : (st : Running) (x : Refusal) → answerOf st ≡ refused x → RefusedForGood st x
-refused-for-good st x e calls = ap answerOf (called-all x st calls (stays.stage-of st x e)) ∙ e
+unfolding cardFileRow
+refused-for-good st x e calls = ap cardFileRow (ap answerOf (called-all x st calls (stays.stage-of st x e)) ∙ e)
 
 -- "A bad edition is refused, 1, from the start"
 pub bad-edition : (edition : ℕ) → known edition ≡ false → BadEdition edition
@@ -117,13 +143,13 @@ closed-stage st answer = by (st .stage)
     by (Refused x) e = cc
 
 -- "After an accepted close, a further record is 13 and a further close the same answer", in every state
-pub after-accepted-close : (st : Running) (answer : AcceptedFile) → answerOf st ≡ accepted answer → AfterAcceptedClose st answer
+pub after-accepted-close : (st : Running) (answer : AcceptedFile) → answerOf st ≡ accepted answer → AfterAcceptedClose st
 unfolding answerAt tookAt closedAt lateAt
 after-accepted-close st answer e =
     let s = closed-stage st answer e in
     record {
       record-more = λ r. refused-for-good (fedOf st r) (afterTheEnd st) (ap (λ s. answerOf (tookAt s st (readingOf (st .edition) r))) s);
-      close-more = ap (λ s. answerOf (closedAt s st)) s ∙ e;
+      close-more = ap (λ s. cardFileRow (answerOf (closedAt s st))) s;
     }
 
 -- and the record is "one past the last"

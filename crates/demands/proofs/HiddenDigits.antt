@@ -18,7 +18,8 @@ use Rattle.card_run.specs.declared.answer.CardAnswer.the-variants.{GoingOn, Acc
 use Rattle.card_run.specs.Running.{openOf, closedOf}
 use Rattle.card_step.specs.Step.{tookOf}
 use Rattle.card_file.specs.Feeding.{fedOf, fedAll}
-use Rattle.card_run.specs.Answer.{answerOf}
+use Rattle.card_run.specs.Answer.{answerOf, cardFileRow}
+use Rattle.sale_field.specs.Field.{fieldRow}
 use Rattle.card_file.specs.CardFile.{unendedOf, lineOf, linesOf, endOf, checkOf}
 use Rattle.card_file.specs.Room.{answerWithRoom}
 use Rattle.card_mask.specs.Mask.{maskAnswer, maskedInto}
@@ -39,7 +40,8 @@ use Rattle.demands.specs.HiddenDigits.{
   MaskedWhereHidden,
 }
 use Rattle.chunks.specs.Chunks.{joinedChunks}
-use Rattle.demands.proofs.InChunks.{as-the-whole}
+use Rattle.card_stream.proofs.InChunks.{chunks-as-whole}
+use Rattle.card_mask.proofs.InChunks.{copied-as-whole}
 use Rattle.demands.proofs.TwinRecords.{same-reading}
 use Rattle.demands.proofs.TwinFiles as files
 use Rattle.demands.proofs.TwinMasks.{same-masked}
@@ -114,20 +116,21 @@ hidden-digits-reach-nothing =
       fed = λ edition rs ss ws k. same-feeding (openOf edition) (first-twins k ws);
       closed = λ edition rs ss ws. ap closedOf (same-feeding (openOf edition) ws);
       after-calls = λ st cs ds ws. same-calls st ws;
-      whole = same-check;
+      whole = λ edition s t w. ap cardFileRow (same-check edition s t w);
       masks = λ edition s t out w a b after-s after-t m n.
           let answers = same-answer edition s t (length out) (w .same-length) w in (
-            m .answers ∙ answers ∙ sym (n .answers),
+            ap cardFileRow (m .answers ∙ answers ∙ sym (n .answers)),
             m .leaves ∙ ap (λ answer. maskedInto answer s out) answers ∙ same-output (maskAnswer edition t (length out)) s t out w ∙ sym (n .leaves),
           );
-      in-chunks = λ edition cs ds w. as-the-whole .card-file edition cs ∙ same-check edition (joinedChunks cs) (joinedChunks ds) w ∙ sym (as-the-whole .card-file edition ds);
-      copied = λ cs ds w. as-the-whole .masked-copy cs ∙ same-masked (joinedChunks cs) (joinedChunks ds) w ∙ sym (as-the-whole .masked-copy ds);
+      in-chunks = λ edition cs ds w.
+          ap cardFileRow (chunks-as-whole edition cs ∙ same-check edition (joinedChunks cs) (joinedChunks ds) w ∙ sym (chunks-as-whole edition ds));
+      copied = λ cs ds w. copied-as-whole cs ∙ same-masked (joinedChunks cs) (joinedChunks ds) w ∙ sym (copied-as-whole ds);
       sheets = λ edition s t out w a b after-s after-t m n.
           let answers = same-answer edition s t (length out) refl w in (
-            m .answers ∙ answers ∙ sym (n .answers),
+            ap cardFileRow (m .answers ∙ answers ∙ sym (n .answers)),
             m .leaves ∙ ap (λ answer. sheetInto edition answer out) answers ∙ sym (n .leaves),
           );
-      field = λ r s w number. (same-refusal r s w number, same-field r s w number);
+      field = λ r s w number. (ap fieldRow (same-refusal r s w number), same-field r s w number);
     }
 
 -- and the masked copy is the file with a star at each hidden place

@@ -30,7 +30,7 @@ use Rattle.card_step.specs.Rules.{joinedAt, rulesOf}
 use Rattle.card_step.specs.Behind.{behind}
 use Rattle.card_step.specs.Step.{behindOrRefused, tookAt}
 use Rattle.card_file.specs.CardFile.{linesOf, endOf, checkOf}
-use Rattle.card_kept.specs.FirstFault.{isAccepted}
+use Rattle.card_run.specs.Answer.{cardFileRow}
 use Rattle.demands.specs.HiddenDigits.{hiddenAt, hiddenInPieces, hiddenIn, TwinFiles}
 use Rattle.demands.specs.HiddenDigitsExample.{oneFile, otherFile, TwinsThatDiffer}
 
@@ -42,8 +42,8 @@ twins : TwinFiles oneFile otherFile
 unfolding picked allowed holdsOnly sameBytes wellFormed leadingZeros hiddenPlaces starWhere inFront cut joined endsInCr withoutLast kindNamed cardPartFound hiddenAt hiddenInPieces
 twins = equal-stars picked oneFile otherFile .0 refl
 
-accepted : isAccepted (checkOf 2 oneFile) ≡ true
-unfolding known firstBroken allowed holdsOnly valueFrom sameBytes hasByte oneByteOf daysIn isDay isTime whenRules wellFormed leadingZeros inFront cut joined endsInCr withoutLast inSet contentRules joinedRules tableRules recordRules kindNamed rightReading judgedAs readFound answerAt joinedAt rulesOf behind behindOrRefused tookAt closedAt linesOf endOf lateAt
+accepted : cardFileRow (checkOf 2 oneFile) .accepted ≡ true
+unfolding known cardFileRow firstBroken allowed holdsOnly valueFrom sameBytes hasByte oneByteOf daysIn isDay isTime whenRules wellFormed leadingZeros inFront cut joined endsInCr withoutLast inSet contentRules joinedRules tableRules recordRules kindNamed rightReading judgedAs readFound answerAt joinedAt rulesOf behind behindOrRefused tookAt closedAt linesOf endOf lateAt
 accepted = refl
 
 differ : oneFile ≡ otherFile → ⊥

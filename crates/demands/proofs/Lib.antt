@@ -1,5 +1,7 @@
 pub mod Examples
 pub mod Feeding
+pub mod CardAfterEnd
+pub mod PayrollAfterEnd
 pub mod InChunks
 pub mod TwinLaws
 pub mod TwinRecords

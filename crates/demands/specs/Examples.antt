@@ -1,21 +1,19 @@
 -- Document 01's examples marked (p), in its order, as one list and one statement.
 use Prim.Native.Nat.{ℕ}
 use Prim.Native.String.{String}
-use mathlib.Core.List.{List, [], _∷_}
+use mathlib.Core.List.{List, [], _∷_, _++_}
 use mathlib.Core.Bool.{Bool, true, false, not, _&&_}
 use lib.Dec.{eqb}
-use Rattle.refusal.specs.declared.Fault.{Fault}
-use Rattle.refusal.specs.declared.Fault.the-variants.{Nothing as noFault, At as faultAt}
-use Rattle.refusal.specs.RefusalList.{numberOf}
-use Rattle.refusal.specs.Rules.{firstBroken}
+use Rattle.refusal.specs.Row.{RefusalRow}
 use Rattle.text.specs.Literal.{ascii, sameBytes}
 use Rattle.calendar.specs.declared.when.When.{When}
 use Rattle.calendar.specs.declared.when.When.the-variants.{NotDigits, NoSuch, At}
 use Rattle.calendar.specs.Day.{yearFirst}
 use Rattle.pan.specs.Masked.{masked}
-use Rattle.totals.specs.Amounts.{noAmounts}
-use Rattle.card_sale.specs.declared.cv.Cv.{Cv}
-use Rattle.card_sale.specs.Cv.{joinedRules}
+use Rattle.card_run.specs.declared.running.Running.{Running}
+use Rattle.card_run.specs.Running.{openOf}
+use Rattle.card_run.specs.Answer.{answerOf, cardFileRow}
+use Rattle.card_file.specs.Feeding.{fedOf, fedAll}
 
 pub data Example : Type 0 where
   -- a card field, and what masking gives
@@ -23,9 +21,9 @@ pub data Example : Type 0 where
   -- a part that is a date, and one that is none
   isDate : String → Example
   isNoDate : String → Example
-  -- gross, discount and net of a cash sale, which agree, or are refused by a number at a column
-  agrees : ℕ → ℕ → ℕ → Example
-  isRefused : ℕ → ℕ → ℕ → ℕ → ℕ → Example
+  -- gross, discount and net of a cash sale, "eleven digits, in centavos", which agree, or are refused by a number at a column
+  agrees : String → String → String → Example
+  isRefused : String → String → String → ℕ → ℕ → Example
 
 -- whether a part names a day
 abbrev namesDay : When → Bool
@@ -33,35 +31,37 @@ namesDay NotDigits = false
 namesDay NoSuch = false
 namesDay (At n) = true
 
--- a cash sale: a CV with these amounts and no instalment
-abbrev cashSale : ℕ → ℕ → ℕ → Cv
+-- a cash sale, 199 bytes: "sale gross 55-65, discount 66-76, net 77-87"; no instalment, and its NSEQ is 3
+abbrev cashSale : String → String → String → List ℕ
 cashSale gross discount net =
-    record {
-      «launch_type» = 1;
-      sale = record { gross = gross; discount = discount; net = net };
-      instalment = 0;
-      instalments = 0;
-      «instalment_nsu» = 0;
-      «instalment_amounts» = noAmounts;
-      nseq = 1;
-    }
+    ascii "CVSTORE          00000000000120240229113000120240330C1" ++
+    (ascii gross ++
+    (ascii discount ++
+    (ascii net ++
+    ascii "00012345678901234560000000000000000000000000000000000000000000000000422000001          1000000000001001001000003")))
 
--- whether there is no fault, and whether there is one by a number of the refusal list at a column
-abbrev isNone : Fault → Bool
-isNone noFault = true
-isNone (faultAt cause column) = false
+-- its place: behind A0 and L0, under edition 2
+abbrev inBatch : Running
+inBatch =
+    fedAll (openOf 2)
+    (ascii "A0001.7d20240229120000000001LOSSIVURN                     0001000001N000001" ∷
+    ascii "L020240229RE000002" ∷ [])
 
-abbrev isFault : ℕ → ℕ → Fault → Bool
-isFault number place noFault = false
-isFault number place (faultAt cause column) = eqb (numberOf cause) number && eqb column place
+-- the refusal after that sale, taken at its place
+abbrev afterSale : String → String → String → RefusalRow
+afterSale gross discount net = cardFileRow (answerOf (fedOf inBatch (cashSale gross discount net))) .refusal
+
+-- whether a row of the paper has a number of the refusal list, 0 for none, and a column
+abbrev isAt : ℕ → ℕ → RefusalRow → Bool
+isAt number column row = eqb (row .number) number && eqb (row .column) column
 
 -- whether an example is as written
 unfoldable pub asWritten : Example → Bool
 asWritten (masks field gives) = sameBytes (masked (ascii field)) (ascii gives)
 asWritten (isDate part) = namesDay (yearFirst (ascii part))
 asWritten (isNoDate part) = not (namesDay (yearFirst (ascii part)))
-asWritten (agrees gross discount net) = isNone (firstBroken (joinedRules (cashSale gross discount net)))
-asWritten (isRefused gross discount net number column) = isFault number column (firstBroken (joinedRules (cashSale gross discount net)))
+asWritten (agrees gross discount net) = isAt 0 0 (afterSale gross discount net)
+asWritten (isRefused gross discount net number column) = isAt number column (afterSale gross discount net)
 
 abbrev pub examples : List Example
 examples =
@@ -76,8 +76,8 @@ examples =
     isNoDate "20230229" ∷
     isNoDate "19991231" ∷
     isDate "20991231" ∷
-    agrees 10000 250 9750 ∷
-    isRefused 10000 250 9751 10 77 ∷ []
+    agrees "00000010000" "00000000250" "00000009750" ∷
+    isRefused "00000010000" "00000000250" "00000009751" 10 77 ∷ []
 
 -- every example of a list is as written
 unfoldable pub allAsWritten : List Example → Bool

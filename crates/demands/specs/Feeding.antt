@@ -2,35 +2,30 @@
 use Prim.Native.Nat.{ℕ, suc}
 use mathlib.Core.Path.{_≡_}
 use mathlib.Core.List.{List, [], _∷_, _++_}
-use mathlib.Core.Bool.{cond}
+use mathlib.Core.Bool.{cond, not, _&&_}
 use lib.ListN.{length}
-use lib.Dec.{leb}
+use lib.Dec.{leb, eqb}
 use Rattle.refusal.specs.declared.Cause.the-variants.{EditionUnknown, BytesAfterTheEnd}
 use Rattle.refusal.specs.declared.Refusal.{Refusal}
 use Rattle.refusal.specs.Nowhere.{nowhere}
 use Rattle.lines.specs.Lines.{joined}
 use Rattle.card_run.specs.declared.running.Running.{Running}
-use Rattle.card_run.specs.declared.answer.Accepted.{Accepted as AcceptedFile}
-use Rattle.card_run.specs.declared.answer.CardAnswer.{CardAnswer}
-use Rattle.card_run.specs.declared.answer.CardAnswer.the-variants.{GoingOn, Accepted, Refused}
 use Rattle.card_run.specs.Running.{openOf, nextNumber, closedOf}
 use Rattle.card_file.specs.Feeding.{fedOf, fedAll}
-use Rattle.card_run.specs.Answer.{answerOf}
+use Rattle.card_run.specs.Answer.{answerOf, CardFileRow, goingOnRow, refusedRow, cardFileRow}
 use Rattle.card_file.specs.CardFile.{checkOf}
 
--- of the answer of reading the whole, "the refusal that reading the whole gives" at one of the first k records, "or none"
-abbrev pub upTo : ℕ → CardAnswer → CardAnswer
-upTo k GoingOn = GoingOn
-upTo k (Accepted a) = GoingOn
-upTo k (Refused r) = cond (leb (r .«record») k) (Refused r) GoingOn
+-- of the row of reading the whole, "the refusal that reading the whole gives" at one of the first k records, "or none"
+abbrev pub upTo : ℕ → CardFileRow → CardFileRow
+upTo k row = cond (not (eqb (row .refusal .number) 0) && leb (row .refusal .record-number) k) row goingOnRow
 
--- records fed one by one answer what their file, read whole, answers
+-- records fed one by one answer what their file, read whole, answers: "Equality with the whole holds for records without LF"
 pub record FedAsWhole (edition : ℕ) (records : List (List ℕ)) : Type 0 where
   -- "closing gives 12 or the file's answer"
-  pub closed : answerOf (closedOf (fedAll (openOf edition) records)) ≡ checkOf edition (joined records)
+  pub closed : cardFileRow (answerOf (closedOf (fedAll (openOf edition) records))) ≡ cardFileRow (checkOf edition (joined records))
   -- "After each record the answer is the refusal that reading the whole gives at that record, or none"
   pub after-each : (fed left : List (List ℕ)) → records ≡ fed ++ left →
-      answerOf (fedAll (openOf edition) fed) ≡ upTo (length fed) (checkOf edition (joined records))
+      cardFileRow (answerOf (fedAll (openOf edition) fed)) ≡ upTo (length fed) (cardFileRow (checkOf edition (joined records)))
 
 -- a call: a record more, or the close
 pub data Call : Type 0 where
@@ -45,7 +40,7 @@ called st (close ∷ calls) = called (closedOf st) calls
 
 -- "Once refused, every later call gives that same refusal"
 abbrev pub RefusedForGood : Running → Refusal → Type 0
-RefusedForGood st refusal = (calls : List Call) → answerOf (called st calls) ≡ Refused refusal
+RefusedForGood st refusal = (calls : List Call) → cardFileRow (answerOf (called st calls)) ≡ refusedRow refusal
 
 -- "A bad edition is refused, 1, from the start"
 abbrev pub BadEdition : ℕ → Type 0
@@ -55,12 +50,12 @@ BadEdition edition = RefusedForGood (openOf edition) (nowhere EditionUnknown)
 abbrev pub afterTheEnd : Running → Refusal
 afterTheEnd st = record { cause = BytesAfterTheEnd; «record» = nextNumber st; column = 0 }
 
--- "After an accepted close": what a state with that answer gives to further calls
-pub record AfterAcceptedClose (st : Running) (answer : AcceptedFile) : Type 0 where
+-- "After an accepted close": what a state with an accepted answer gives to further calls
+pub record AfterAcceptedClose (st : Running) : Type 0 where
   -- "a further record is 13", for good
   pub record-more : (r : List ℕ) → RefusedForGood (fedOf st r) (afterTheEnd st)
   -- "and a further close the same answer"
-  pub close-more : answerOf (closedOf st) ≡ Accepted answer
+  pub close-more : cardFileRow (answerOf (closedOf st)) ≡ cardFileRow (answerOf st)
 
 -- and the record that comes next after records were fed and closed is one past them
 abbrev pub OnePastTheLast : ℕ → List (List ℕ) → Type 0

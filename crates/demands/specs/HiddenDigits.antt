@@ -17,7 +17,8 @@ use Rattle.card_run.specs.declared.running.Running.{Running}
 use Rattle.card_run.specs.Running.{openOf, closedOf}
 use Rattle.card_run.specs.declared.answer.CardAnswer.{CardAnswer}
 use Rattle.card_file.specs.CardFile.{checkOf}
-use Rattle.sale_field.specs.Field.{refusalOf, fieldOf}
+use Rattle.card_run.specs.Answer.{cardFileRow}
+use Rattle.sale_field.specs.Field.{refusalOf, fieldOf, fieldRow}
 use Rattle.card_mask.specs.Masked.{maskedFile}
 use Rattle.card_mask.specs.Mask.{Masks}
 use Rattle.card_sheet.specs.SheetOf.{SheetOf}
@@ -83,19 +84,20 @@ pub record HiddenDigitsReachNothing : Type 0 where
   -- and after all calls of every kind, from every state
   pub after-calls : (st : Running) (cs ds : List Call) → TwinCalls cs ds → called st cs ≡ called st ds
   -- the verdict, the refusal, the counts and the totals of a file read whole
-  pub whole : (edition : ℕ) (s t : List ℕ) → TwinFiles s t → checkOf edition s ≡ checkOf edition t
+  pub whole : (edition : ℕ) (s t : List ℕ) → TwinFiles s t → cardFileRow (checkOf edition s) ≡ cardFileRow (checkOf edition t)
   -- the answer of masking, and every byte of the output
   pub masks : (edition : ℕ) (s t out : List ℕ) → TwinFiles s t → (answer-s answer-t : CardAnswer) (after-s after-t : List ℕ) →
-      Masks edition s out answer-s after-s → Masks edition t out answer-t after-t → (answer-s ≡ answer-t) × (after-s ≡ after-t)
+      Masks edition s out answer-s after-s → Masks edition t out answer-t after-t → (cardFileRow answer-s ≡ cardFileRow answer-t) × (after-s ≡ after-t)
   -- the answer of a file in chunks, however the two are cut, and the bytes that masking it has written
-  pub in-chunks : (edition : ℕ) (cs ds : List (List ℕ)) → TwinFiles (joinedChunks cs) (joinedChunks ds) → cardInChunks edition cs ≡ cardInChunks edition ds
+  pub in-chunks : (edition : ℕ) (cs ds : List (List ℕ)) → TwinFiles (joinedChunks cs) (joinedChunks ds) →
+      cardFileRow (cardInChunks edition cs) ≡ cardFileRow (cardInChunks edition ds)
   pub copied : (cs ds : List (List ℕ)) → TwinFiles (joinedChunks cs) (joinedChunks ds) →
       copiedInChunks cs .written ++ copiedInChunks cs .waiting ≡ copiedInChunks ds .written ++ copiedInChunks ds .waiting
   -- the answer of a file's day sheet, and every byte of the output
   pub sheets : (edition : ℕ) (s t out : List ℕ) → TwinFiles s t → (answer-s answer-t : CardAnswer) (after-s after-t : List ℕ) →
-      SheetOf edition s out answer-s after-s → SheetOf edition t out answer-t after-t → (answer-s ≡ answer-t) × (after-s ≡ after-t)
+      SheetOf edition s out answer-s after-s → SheetOf edition t out answer-t after-t → (cardFileRow answer-s ≡ cardFileRow answer-t) × (after-s ≡ after-t)
   -- the refusal of the field question, and the part that it hands back
-  pub field : (r s : List ℕ) → TwinRecords r s → (number : ℕ) → (refusalOf r number ≡ refusalOf s number) × (fieldOf r number ≡ fieldOf s number)
+  pub field : (r s : List ℕ) → TwinRecords r s → (number : ℕ) → (fieldRow (refusalOf r number) ≡ fieldRow (refusalOf s number)) × (fieldOf r number ≡ fieldOf s number)
 
 -- "The masked copy is the accepted file with a star at each such place": byte for byte, of every file
 pub record MaskedWhereHidden (file : List ℕ) : Type 0 where

@@ -7,7 +7,7 @@ use mathlib.Core.Bool.{true}
 use Rattle.text.specs.Literal.{ascii}
 use Rattle.lines.specs.Lines.{joined}
 use Rattle.card_file.specs.CardFile.{checkOf}
-use Rattle.card_kept.specs.FirstFault.{isAccepted}
+use Rattle.card_run.specs.Answer.{cardFileRow}
 use Rattle.demands.specs.HiddenDigits.{TwinFiles}
 
 -- the file with a card of 19 characters
@@ -31,6 +31,6 @@ otherFile = fileWith "0001234565555553456"
 
 -- the one is accepted, they are twins, and they are not the same
 pub record TwinsThatDiffer : Type 0 where
-  pub accepted : isAccepted (checkOf 2 oneFile) ≡ true
+  pub accepted : cardFileRow (checkOf 2 oneFile) .accepted ≡ true
   pub twins : TwinFiles oneFile otherFile
   pub differ : oneFile ≡ otherFile → ⊥

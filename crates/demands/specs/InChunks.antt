@@ -2,52 +2,73 @@
 use Prim.Native.Nat.{ℕ}
 use mathlib.Core.Path.{_≡_}
 use mathlib.Core.List.{List, [], _∷_, _++_, foldl}
+use mathlib.Core.Bool.{true}
+use Rattle.refusal.specs.declared.Cause.the-variants.{BytesAfterTheEnd}
 use Rattle.refusal.specs.declared.Refusal.{Refusal}
 use Rattle.chunks.specs.Chunks.{joinedChunks}
-use Rattle.card_run.specs.declared.answer.Accepted.{Accepted as CardNumbers}
 use Rattle.card_run.specs.declared.answer.CardAnswer.{CardAnswer}
-use Rattle.card_run.specs.declared.answer.CardAnswer.the-variants.{GoingOn, Accepted, Refused}
+use Rattle.card_run.specs.Answer.{goingOnRow, refusedRow, cardFileRow}
 use Rattle.card_file.specs.CardFile.{checkOf}
 use Rattle.card_stream.specs.declared.Stream.{Stream as CardStream}
 use Rattle.card_stream.specs.Stream as card
 use Rattle.card_mask.specs.Masked.{maskedFile}
 use Rattle.card_mask.specs.InChunks.{Copied, nothingCopied, copiedOver}
+use Rattle.payroll_run.specs.State.{refusalAt}
+use Rattle.payroll_file.specs.Answer as paper
 use Rattle.payroll_file.specs.PayrollFile.{checkOf as payrollCheckOf}
 use Rattle.payroll_stream.specs.declared.Progress.{Progress}
-use Rattle.payroll_stream.specs.declared.Progress.the-variants.{Answered}
 use Rattle.payroll_stream.specs.declared.Stream.{Stream as PayrollStream}
 use Rattle.payroll_stream.specs.Stream as payroll
 use Rattle.demands.specs.Feeding.{afterTheEnd}
 
--- the answers of a card file and of a payroll file that came in these chunks, and what masking them has written
+-- a card file and a payroll file of which these chunks have come
+abbrev pub cardTaken : ℕ → List (List ℕ) → CardStream
+cardTaken edition chunks = foldl card.takenOf (card.openOf edition) chunks
+
+abbrev pub payrollTaken : List (List ℕ) → PayrollStream
+payrollTaken chunks = foldl payroll.takenOf payroll.openOf chunks
+
+-- their answers once they end, and what masking the chunks has written
 abbrev pub cardInChunks : ℕ → List (List ℕ) → CardAnswer
-cardInChunks edition chunks = card.answerOf (card.endedOf (foldl card.takenOf (card.openOf edition) chunks))
+cardInChunks edition chunks = card.answerOf (card.endedOf (cardTaken edition chunks))
 
 abbrev pub payrollInChunks : List (List ℕ) → Progress
-payrollInChunks chunks = payroll.answerOf (payroll.endedOf (foldl payroll.takenOf payroll.openOf chunks))
+payrollInChunks chunks = payroll.answerOf (payroll.endedOf (payrollTaken chunks))
 
 abbrev pub copiedInChunks : List (List ℕ) → Copied
 copiedInChunks chunks = foldl copiedOver nothingCopied chunks
 
 pub record AsTheWhole : Type 0 where
-  pub card-file : (edition : ℕ) (chunks : List (List ℕ)) → cardInChunks edition chunks ≡ checkOf edition (joinedChunks chunks)
-  pub payroll-file : (chunks : List (List ℕ)) → payrollInChunks chunks ≡ Answered (payrollCheckOf (joinedChunks chunks))
+  pub card-file : (edition : ℕ) (chunks : List (List ℕ)) → cardFileRow (cardInChunks edition chunks) ≡ cardFileRow (checkOf edition (joinedChunks chunks))
+  pub payroll-file : (chunks : List (List ℕ)) → payroll.progressRow (payrollInChunks chunks) ≡ paper.payrollRow (payrollCheckOf (joinedChunks chunks))
+  -- "records from the first on": a refusal before the end is the whole file's, whatever comes behind, so that reading may stop there
+  pub card-refused-early : (edition : ℕ) (chunks more : List (List ℕ)) (x : Refusal) → cardFileRow (card.answerOf (cardTaken edition chunks)) ≡ refusedRow x →
+      cardFileRow (checkOf edition (joinedChunks (chunks ++ more))) ≡ refusedRow x
+  pub payroll-refused-early : (chunks more : List (List ℕ)) (x : Refusal) → payroll.progressRow (payroll.answerOf (payrollTaken chunks)) ≡ paper.refusedRow x →
+      paper.payrollRow (payrollCheckOf (joinedChunks (chunks ++ more))) ≡ paper.refusedRow x
   -- what masking has written, with the unfinished record that waits, is the masked copy; of an accepted file none waits
   pub masked-copy : (chunks : List (List ℕ)) → copiedInChunks chunks .written ++ copiedInChunks chunks .waiting ≡ maskedFile (joinedChunks chunks)
-  pub accepted-copy : (edition : ℕ) (chunks : List (List ℕ)) (a : CardNumbers) → checkOf edition (joinedChunks chunks) ≡ Accepted a →
+  pub accepted-copy : (edition : ℕ) (chunks : List (List ℕ)) → cardFileRow (checkOf edition (joinedChunks chunks)) .accepted ≡ true →
       copiedInChunks chunks ≡ record { written = maskedFile (joinedChunks chunks); waiting = [] }
 
 -- a chunk or an end after the end, or after a refusal, in every state that a caller can hold
 pub record AfterTheEnd : Type 0 where
   -- the end decides: the file is accepted or refused, and does not go on
-  pub card-decided : (s : CardStream) → card.answerOf (card.endedOf s) ≡ GoingOn → ⊥
+  pub card-decided : (s : CardStream) → cardFileRow (card.answerOf (card.endedOf s)) ≡ goingOnRow → ⊥
+  pub payroll-decided : (s : PayrollStream) → payroll.progressRow (payroll.answerOf (payroll.endedOf s)) ≡ payroll.goingOnRow → ⊥
   -- a further end changes nothing
-  pub card-ended-again : (s : CardStream) → card.answerOf (card.endedOf (card.endedOf s)) ≡ card.answerOf (card.endedOf s)
+  pub card-ended-again : (s : CardStream) → cardFileRow (card.answerOf (card.endedOf (card.endedOf s))) ≡ cardFileRow (card.answerOf (card.endedOf s))
   pub payroll-ended-again : (s : PayrollStream) → payroll.endedOf (payroll.endedOf s) ≡ payroll.endedOf s
-  -- a refusal stays, whatever comes
-  pub card-refused : (s : CardStream) (x : Refusal) → card.answerOf s ≡ Refused x →
-      ((chunk : List ℕ) → card.answerOf (card.takenOf s chunk) ≡ Refused x) × (card.answerOf (card.endedOf s) ≡ Refused x)
-  -- after an accepted end an empty chunk changes nothing, and any byte is 13, one past the last record
-  pub card-accepted : (s : CardStream) (a : CardNumbers) → card.answerOf s ≡ Accepted a →
-      (card.answerOf (card.takenOf s []) ≡ Accepted a) ×
-      ((b : ℕ) (chunk : List ℕ) → card.answerOf (card.takenOf s (b ∷ chunk)) ≡ Refused (afterTheEnd (s .state)))
+  -- "Once refused, every later call gives that same refusal": before the end and behind it
+  pub card-refused : (s : CardStream) (x : Refusal) → cardFileRow (card.answerOf s) ≡ refusedRow x →
+      ((chunk : List ℕ) → cardFileRow (card.answerOf (card.takenOf s chunk)) ≡ refusedRow x) × (cardFileRow (card.answerOf (card.endedOf s)) ≡ refusedRow x)
+  pub payroll-refused : (s : PayrollStream) (x : Refusal) → payroll.progressRow (payroll.answerOf s) ≡ paper.refusedRow x →
+      ((chunk : List ℕ) → payroll.progressRow (payroll.answerOf (payroll.takenOf s chunk)) ≡ paper.refusedRow x) ×
+      (payroll.progressRow (payroll.answerOf (payroll.endedOf s)) ≡ paper.refusedRow x)
+  -- after an accepted end an empty chunk changes nothing, and any byte is 13, "bytes after the end", "one past the last, 0"; as a refusal it stays
+  pub card-accepted : (s : CardStream) → cardFileRow (card.answerOf s) .accepted ≡ true →
+      (cardFileRow (card.answerOf (card.takenOf s [])) ≡ cardFileRow (card.answerOf s)) ×
+      ((b : ℕ) (chunk : List ℕ) → cardFileRow (card.answerOf (card.takenOf s (b ∷ chunk))) ≡ refusedRow (afterTheEnd (s .state)))
+  pub payroll-accepted : (s : PayrollStream) → payroll.progressRow (payroll.answerOf s) .accepted ≡ true →
+      (payroll.takenOf s [] ≡ s) ×
+      ((b : ℕ) (chunk : List ℕ) → payroll.progressRow (payroll.answerOf (payroll.takenOf s (b ∷ chunk))) ≡ paper.refusedRow (refusalAt BytesAfterTheEnd 0 (s .state)))

@@ -5,3 +5,4 @@ pub mod HiddenDigits
 pub mod LentBuffers
 pub mod RulesKept
 pub mod HiddenDigitsExample
+pub mod Demands

@@ -8,7 +8,7 @@ use lib.Dec.{eqb}
 use Rattle.lines.specs.declared.Found.{Found}
 use Rattle.lines.specs.declared.Found.the-variants.{At, Nowhere}
 
--- CR and LF
+-- CR and LF; "The line end is our choice"
 abbrev pub cr : ℕ
 cr = 13
 

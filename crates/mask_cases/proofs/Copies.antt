@@ -1,33 +1,19 @@
 -- Laws of a masked copy that is made step by step. What is still to do, from the records that are masked on, is what was to do from the start.
-use Prim.Native.Nat.{ℕ, suc, _+_, _-_, _≤_}
-use mathlib.Core.Path.{_≡_, refl, sym, ap, ap₂, _∙_}
-use mathlib.Core.List.{List, [], _∷_, _++_, map, append-nil, append-assoc}
+use Prim.Native.Nat.{ℕ, _+_, _-_, _≤_}
+use mathlib.Core.Path.{_≡_, sym, ap, ap₂, _∙_}
+use mathlib.Core.List.{List, [], _∷_, _++_, append-nil, append-assoc}
 use native.Mathlib.Omega.{arith}
-use lib.ListN.{length, take, drop, length-append, length-take, take-append-drop, drop-of-length-le}
-use lib.Seq.{length-take-le, take-length, take-at, drop-at, take-add, drop-drop, take-append-le, drop-append-le, take-append-seam, drop-append-seam}
+use lib.ListN.{length, take, drop, length-take, take-append-drop, drop-of-length-le}
+use lib.Seq.{length-take-le, take-at, drop-at, take-add, drop-drop, take-append-le, drop-append-le}
 use Rattle.cases.proofs.Parts.{part-then-rest, to-the-end}
 use Rattle.chunks.specs.Chunks.{joinedChunks}
-use Rattle.lines.specs.Lines.{lf, cut, rejoined}
+use Rattle.lines.specs.Lines.{cut}
 use Rattle.lines.proofs.Cuts.{cut-is-cut}
-use Rattle.card_mask.specs.Masked.{maskedPiece, maskedFile, finishedIn}
+use Rattle.card_mask.specs.Masked.{maskedFile, finishedIn}
 use Rattle.card_mask.specs.InChunks.{nothingCopied, copiedOver}
-use Rattle.card_mask.proofs.InChunks.{copied-as-whole}
-use Rattle.card_mask.proofs.Pieces.{piece-length}
+use Rattle.card_mask.proofs.InChunks.{copied-as-whole, lines-length}
 use Rattle.card_mask.proofs.Finished.{finished-within}
 use Rattle.mask_cases.specs.Copying.{between, MasksBetween}
-
--- a file that is copied stands in front, and behind it is what was there
-pub front : (file out : List ℕ) {l : List ℕ} → l ≡ take (length file) file ++ drop (length file) out → take (length file - 0) (drop 0 l) ≡ file
-front file out {l} e =
-    let all : length file - 0 ≡ length file = omega arith in
-    ap (λ n. take n l) all ∙
-    ap (take (length file)) (e ∙ ap (λ f. f ++ drop (length file) out) (take-length file)) ∙ take-append-seam file (drop (length file) out)
-
-pub back : (file out : List ℕ) {l : List ℕ} → l ≡ take (length file) file ++ drop (length file) out → drop (length file - 0) l ≡ drop (length file) out
-back file out {l} e =
-    let all : length file - 0 ≡ length file = omega arith in
-    ap (λ n. drop n l) all ∙
-    ap (drop (length file)) (e ∙ ap (λ f. f ++ drop (length file) out) (take-length file)) ∙ drop-append-seam file (drop (length file) out)
 
 -- bytes masked, and those behind them with what waits, are all of them masked
 masked-on : (s t : List ℕ) → take (finishedIn s) (maskedFile s) ++ maskedFile (drop (finishedIn s) (maskedFile s) ++ t) ≡ maskedFile (s ++ t)
@@ -41,14 +27,6 @@ masked-on s t =
     ap (λ l. maskedFile (s ++ l)) (append-nil t)
 
 -- masking keeps the length
-lines-length : (ps : List (List ℕ)) (rest : List ℕ) → length (rejoined (map maskedPiece ps) rest) ≡ length (rejoined ps rest)
-unfolding rejoined
-lines-length [] rest = refl
-lines-length (p ∷ ps) rest =
-    length-append (maskedPiece p) (lf ∷ rejoined (map maskedPiece ps) rest) ∙
-    ap₂ (λ (m n : ℕ). m + suc n) (piece-length p) (lines-length ps rest) ∙
-    sym (length-append p (lf ∷ rejoined ps rest))
-
 masked-length : (s : List ℕ) → length (maskedFile s) ≡ length s
 masked-length s = lines-length (cut s .pieces) (cut s .rest) ∙ ap length (cut-is-cut s .whole)
 

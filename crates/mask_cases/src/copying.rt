@@ -52,7 +52,7 @@ fn in_chunks(file: &[u8], out: &mut [u8])
     let length = file.len();
     if length <= out.len() {
         bytes::copy(file, out);
-        mask_in_chunks(&mut out[0..length]);
+        mask_in_chunks(&mut out[..length]);
     }
 }
 
@@ -64,7 +64,7 @@ fn in_two(file: &[u8], place: usize, out: &mut [u8])
     let length = file.len();
     if length <= out.len() {
         bytes::copy(file, out);
-        mask_in_two(&mut out[0..length], place);
+        mask_in_two(&mut out[..length], place);
     }
 }
 

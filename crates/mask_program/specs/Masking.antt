@@ -16,21 +16,21 @@ pub record MovedToFront (before : List ℕ) (from end : ℕ) (after : List ℕ) 
   pub front : take (end - from) after ≡ take (end - from) (drop from before)
   pub same : length after ≡ length before
 
--- how many bytes are kept of an unfinished line: none where it fills the buffer
-abbrev pub keptSize : ℕ → ℕ → ℕ
-keptSize size room = cond (ltb size room) size 0
+-- how many bytes wait of an unfinished line: none where it fills the buffer
+abbrev pub waitingSize : ℕ → ℕ → ℕ
+waitingSize size room = cond (ltb size room) size 0
 
--- what is kept of it
-abbrev pub kept : ℕ → List ℕ → List ℕ
-kept room line = cond (ltb (length line) room) line []
+-- what waits of it
+abbrev pub unlessFull : ℕ → List ℕ → List ℕ
+unlessFull room line = cond (ltb (length line) room) line []
 
 -- what waits behind the finished lines of some bytes, once they are masked
 abbrev pub waiting : List ℕ → List ℕ
 waiting bytes = drop (finishedIn bytes) (maskedFile bytes)
 
--- behind the first bytes of a buffer: what waits is kept at its start, and leaves room for the next read
+-- behind the first bytes of a buffer: what waits stands at its start, and leaves room for the next read
 abbrev pub leaves : List ℕ → ℕ → List ℕ → Written → Type 0
-leaves before end after (Tail n) = (n < length after) × (take n after ≡ kept (length before) (waiting (take end before)))
+leaves before end after (Tail n) = (n < length after) × (take n after ≡ unlessFull (length before) (waiting (take end before)))
 leaves before end after Failed = Unit {0}
 
 -- the unfinished line and what was read behind it lie within the buffer

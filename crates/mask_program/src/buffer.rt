@@ -2,7 +2,7 @@
 ghost use Prim.Native.Nat.{_≤_};
 ghost use mathlib.Core.Path.{_≡_};
 ghost use lib.ListN.{length};
-ghost use Rattle.mask_program.specs.Masking.{MovedToFront, keptSize};
+ghost use Rattle.mask_program.specs.Masking.{MovedToFront, waitingSize};
 
 // Moves what stands from `from` up to `end` to the start of the buffer.
 pub(crate) fn move_to_front(buffer: &mut [u8], from: usize, end: usize)
@@ -18,8 +18,8 @@ pub(crate) fn move_to_front(buffer: &mut [u8], from: usize, end: usize)
 
 // An unfinished line that fills the buffer belongs to no accepted file, so it is let go: nothing of its file is written any more,
 // since the file is refused at that line's end.
-pub(crate) fn tail_kept(tail: usize, room: usize) -> usize
-    ensures { λ r. ⌜ r ≡ keptSize tail room ⌝ }
+pub(crate) fn tail_size(tail: usize, room: usize) -> usize
+    ensures { λ r. ⌜ r ≡ waitingSize tail room ⌝ }
 {
     if tail < room { tail } else { 0 }
 }

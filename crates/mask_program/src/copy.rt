@@ -29,7 +29,7 @@ fn write_lines(draft: Draft, buffer: &mut [u8], end: usize) -> Written
         return Written::Failed;
     }
     buffer::move_to_front(buffer, lines, end);
-    Written::Tail(buffer::tail_kept(end - lines, buffer.len()))
+    Written::Tail(buffer::tail_size(end - lines, buffer.len()))
 }
 
 // What is in the buffer once the lines of a chunk are written.

@@ -1,3 +1,4 @@
 pub mod Chunks
 pub mod Digits
 pub mod Making
+pub mod Taking

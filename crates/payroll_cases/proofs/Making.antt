@@ -10,7 +10,8 @@ use borrow.Author.Tests.{le-leb, lt-leb}
 use Rattle.payroll_cases.specs.declared.record.Record.{Record}
 use Rattle.payroll_cases.specs.declared.made.Plan.{Plan}
 use Rattle.payroll_cases.specs.Record.{recordOf}
-use Rattle.payroll_cases.specs.Made.{Made, made, putBehind, putAll, payment, paymentsOf, batchOf, alikeBatches}
+use Rattle.payroll_cases.specs.Kinds.{payment}
+use Rattle.payroll_cases.specs.Made.{Made, made, putBehind, putAll, paymentsOf, batchOf, alikeBatches}
 
 -- where there is no room, and where there is
 pub no-room : (m : Made) (bytes : List ℕ) → length (m .out) < m .size + length bytes → m ≡ putBehind m bytes
@@ -30,6 +31,10 @@ put-there out bytes part copied behind at room same e f =
     let none : drop (length bytes) part ≡ [] = drop-of-length-le part {i = length bytes} (omega arith) in
     let whole : copied ≡ bytes = e ∙ rw (none, take-length, append-nil) in
     rw (whole, f) (has-room (made out at) bytes room)
+
+-- a record that is another is put as that
+pub put-as : (m : Made) {after : Made} {what other : Record} → what ≡ other → after ≡ putBehind m (recordOf what) → after ≡ putBehind m (recordOf other)
+put-as m e f = f ∙ ap (λ r. putBehind m (recordOf r)) e
 
 -- records behind those that are put
 pub put-on : (m : Made) (rs ss : List Record) {before after : Made} → before ≡ putAll m rs → after ≡ putAll before ss → after ≡ putAll m (rs ++ ss)

@@ -14,3 +14,7 @@ largeBatches batches last records =
 -- so many batches with no payment
 abbrev pub emptyBatches : ℕ → Plan
 emptyBatches batches = record { batches = batches; payments = 0; amount = 0; sum = 0; last = 0; records = batches * 2 + 2 }
+
+-- one batch of so many payments of one centavo
+abbrev pub longBatch : ℕ → Plan
+longBatch payments = record { batches = 1; payments = payments; amount = 1; sum = payments; last = 0; records = payments + 4 }

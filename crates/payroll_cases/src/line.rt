@@ -32,13 +32,18 @@ pub fn print_whole(file: &[u8]) {
     print::byte(b'\n');
 }
 
-// Prints the answer of a file in chunks, a line; `-` where there is none.
-pub fn print_in_chunks(file: &[u8]) {
-    match streamed::in_chunks(file) {
+// Prints the answer of a stream, a line; `-` where there is none.
+pub fn print_progress(progress: Progress) {
+    match progress {
         Progress::GoingOn => print::byte(b'-'),
         Progress::Answered(answer) => print_answer(answer),
     }
     print::byte(b'\n');
+}
+
+// Prints the answer of a file in chunks, a line.
+pub fn print_in_chunks(file: &[u8]) {
+    print_progress(streamed::in_chunks(file));
 }
 
 // Prints the answer of a file read whole, and how many of its cuts in two have the same, a line. A longer file is left out.

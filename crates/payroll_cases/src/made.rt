@@ -1,17 +1,10 @@
 // Files that are made here, because they are too long to be kept.
 ghost use mathlib.Core.Path.{_≡_};
-ghost use Rattle.payroll_cases.specs.Made.{made, putBehind, putAll, paymentsOf, batchOf, alikeBatches, lastBatch, batchCount, fileHeader, fileTrailer, recordsOf, endByte};
+ghost use Rattle.payroll_cases.specs.Made.{made, putBehind, putAll, paymentsOf, batchOf, alikeBatches, lastBatch, batchCount, trailerOf, recordsOf, endByte};
+ghost use Rattle.payroll_cases.specs.Kinds.{fileHeader};
 ghost use Rattle.payroll_cases.specs.Record.{recordOf};
+use crate::kinds;
 use crate::record;
-use crate::record::Field;
-use crate::record::NONE;
-use crate::record::Record;
-
-// The date of the file and of each payment, DDMMAAAA.
-const DATE: u64 = 15_112_023;
-
-// The same behind the 1 at position 143 of the file header.
-const HEADER_DATE: u64 = 115_112_023;
 
 // A file: batches that differ only in their number, each of so many payments of one amount, with this sum in its trailer.
 pub struct Plan {
@@ -25,7 +18,7 @@ pub struct Plan {
     pub records: u64,
 }
 
-// Puts so many payments of one amount: the detail number 9-13, the date 94-101, the amount 120-134.
+// Puts so many payments of one amount, numbered from 1.
 fn put_payments(batch: u64, payments: u64, amount: u64, out: &mut [u8], at: usize) -> usize
     ensures { λ r. ⌜ made (now (out .exit)) r ≡ putAll (made (now (out .entry)) at) (paymentsOf batch amount payments) ⌝ }
 {
@@ -33,62 +26,18 @@ fn put_payments(batch: u64, payments: u64, amount: u64, out: &mut [u8], at: usiz
     let mut number = 0;
     while number < payments {
         number += 1;
-        let payment = Record {
-            kind: 3,
-            batch,
-            letter: b'A',
-            one: Field {
-                first: 8,
-                last: 13,
-                number,
-            },
-            two: Field {
-                first: 93,
-                last: 101,
-                number: DATE,
-            },
-            three: Field {
-                first: 119,
-                last: 134,
-                number: amount,
-            },
-        };
-        end = record::put(payment, out, end);
+        end = record::put(kinds::payment(batch, amount, number), out, end);
     }
     end
 }
 
-// Puts a batch. Its trailer has its records 18-23, the sum of its payments 24-41.
+// Puts a batch: its header, its payments and its trailer.
 fn put_batch(batch: u64, payments: u32, amount: u64, sum: u64, out: &mut [u8], at: usize) -> usize
     ensures { λ r. ⌜ made (now (out .exit)) r ≡ putAll (made (now (out .entry)) at) (batchOf batch payments amount sum) ⌝ }
 {
-    let header = Record {
-        kind: 1,
-        batch,
-        letter: b' ',
-        one: NONE,
-        two: NONE,
-        three: NONE,
-    };
-    let trailer = Record {
-        kind: 5,
-        batch,
-        letter: b' ',
-        one: Field {
-            first: 17,
-            last: 23,
-            number: payments as u64 + 2,
-        },
-        two: Field {
-            first: 23,
-            last: 41,
-            number: sum,
-        },
-        three: NONE,
-    };
-    let first = record::put(header, out, at);
+    let first = record::put(kinds::batch_header(batch), out, at);
     let last = put_payments(batch, payments as u64, amount, out, first);
-    record::put(trailer, out, last)
+    record::put(kinds::batch_trailer(batch, payments, sum), out, last)
 }
 
 // Puts the batches of a plan that differ only in their number.
@@ -125,45 +74,18 @@ fn batches_of(plan: Plan) -> u64
     plan.batches as u64 + 1
 }
 
-// Puts the file header, whose date is 144-151.
+// Puts the file header.
 fn put_header(out: &mut [u8]) -> usize
     ensures { λ r. ⌜ made (now (out .exit)) r ≡ putBehind (made (now (out .entry)) 0) (recordOf fileHeader) ⌝ }
 {
-    let header = Record {
-        kind: 0,
-        batch: 0,
-        letter: b' ',
-        one: Field {
-            first: 142,
-            last: 151,
-            number: HEADER_DATE,
-        },
-        two: NONE,
-        three: NONE,
-    };
-    record::put(header, out, 0)
+    record::put(kinds::file_header(), out, 0)
 }
 
-// Puts the file trailer: the batches 18-23, all records 24-29.
+// Puts the file trailer.
 fn put_trailer(plan: Plan, out: &mut [u8], at: usize) -> usize
-    ensures { λ r. ⌜ made (now (out .exit)) r ≡ putBehind (made (now (out .entry)) at) (recordOf (fileTrailer plan)) ⌝ }
+    ensures { λ r. ⌜ made (now (out .exit)) r ≡ putBehind (made (now (out .entry)) at) (recordOf (trailerOf plan)) ⌝ }
 {
-    let trailer = Record {
-        kind: 9,
-        batch: 9999,
-        letter: b' ',
-        one: Field {
-            first: 17,
-            last: 23,
-            number: batches_of(plan),
-        },
-        two: Field {
-            first: 23,
-            last: 29,
-            number: plan.records,
-        },
-        three: NONE,
-    };
+    let trailer = kinds::file_trailer(batches_of(plan), plan.records);
     record::put(trailer, out, at)
 }
 

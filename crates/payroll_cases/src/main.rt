@@ -1,5 +1,5 @@
-// Payroll files: prints the answer of each case, a line each, first of the outside cases, then of our own, then of files that are made here; and again of
-// both in chunks, and the small ones of our own cut in two at every place.
+// Payroll files: prints the answer of each case, a line each, first of the outside cases, then of our own, then of files that are made here, whole and record
+// by record; and again of both in chunks, and the small ones of our own cut in two at every place.
 ghost use Prim.Native.Nat.{_+_, _≤_, min};
 ghost use lib.ListN.{length};
 use cases::cursor;
@@ -8,7 +8,9 @@ use cases::file;
 use cases::source::Source;
 use cases::source::Way;
 
+mod kinds;
 mod line;
+mod long_batch;
 mod made;
 mod print_made;
 mod record;
@@ -54,6 +56,7 @@ fn main() {
     print_all(Source::Outside, Way::Whole);
     print_all(Source::Own, Way::Whole);
     print_made::print_all();
+    long_batch::print_all();
     print_all(Source::Outside, Way::InChunks);
     print_all(Source::Own, Way::InChunks);
     print_all(Source::Own, Way::CutAtEveryPlace);

@@ -22,7 +22,7 @@ pub struct Record {
 }
 
 // How many bytes a record takes, with its line end.
-const WIDTH: usize = 242;
+pub const WIDTH: usize = 242;
 
 // The number of the bank, which every record begins with, before a batch and a kind.
 const BANK: u64 = 42_200_000;
@@ -93,14 +93,22 @@ pub fn put_behind(bytes: &[u8], out: &mut [u8], at: usize) -> usize
     end
 }
 
-// Puts a record behind the first `at` bytes: blanks, the letter 14, the numbers, and the line end.
-pub fn put(what: Record, out: &mut [u8], at: usize) -> usize
-    ensures { λ r. ⌜ made (now (out .exit)) r ≡ putBehind (made (now (out .entry)) at) (recordOf what) ⌝ }
+// The bytes of a record: blanks, the letter 14, the numbers, and the line end.
+pub fn bytes_of(what: Record) -> [u8; WIDTH]
+    ensures { λ r. ⌜ r ≡ recordOf what ⌝ }
 {
     let mut bytes = [b' '; WIDTH];
     bytes[13] = what.letter;
     bytes[240] = b'\r';
     bytes[241] = b'\n';
     put_numbers(what, &mut bytes);
+    bytes
+}
+
+// Puts a record behind the first `at` bytes.
+pub fn put(what: Record, out: &mut [u8], at: usize) -> usize
+    ensures { λ r. ⌜ made (now (out .exit)) r ≡ putBehind (made (now (out .entry)) at) (recordOf what) ⌝ }
+{
+    let bytes = bytes_of(what);
     put_behind(&bytes, out, at)
 }

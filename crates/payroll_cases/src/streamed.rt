@@ -14,7 +14,7 @@ use payroll_stream::Progress;
 use payroll_stream::Stream;
 
 // The answer of a file whose last bytes these are.
-fn finished(stream: Stream, rest: &[u8]) -> Progress
+pub fn finished(stream: Stream, rest: &[u8]) -> Progress
     ensures { λ r. ⌜ r ≡ finishedOf stream (now (rest .entry)) ⌝ }
 {
     stream.take(rest).end().answer()

@@ -1,2 +1,3 @@
+pub mod FileRows
 mod Ends
 pub mod Steps

@@ -1,30 +1,25 @@
 -- The answer of a payroll file: the row that document 01 gives for each.
-use Prim.Native.Nat.{ℕ}
-use Rattle.refusal.specs.RefusalList.{numberOf}
+use mathlib.Core.Bool.{Bool, true, false}
+use Rattle.refusal.specs.declared.Refusal.{Refusal}
+use Rattle.refusal.specs.Row.{RefusalRow, noRefusal, refusalRow}
+use Rattle.payroll_file.specs.declared.answer.Accepted.{Accepted as Numbers}
 use Rattle.payroll_file.specs.declared.answer.PayrollAnswer.{PayrollAnswer}
 use Rattle.payroll_file.specs.declared.answer.PayrollAnswer.the-variants.{Accepted, Refused}
 
--- the refusal's number, record and column, and the file's counts and amount
-pub record Row : Type 0 where
-  pub number : ℕ
-  pub record-number : ℕ
-  pub column : ℕ
-  pub records : ℕ
-  pub batches : ℕ
-  pub payments : ℕ
-  pub amount : ℕ
+-- whether the file is accepted, the refusal's number, record and column, and the file's counts and amount
+pub record PayrollRow : Type 0 where
+  pub accepted : Bool
+  pub refusal : RefusalRow
+  pub numbers : Numbers
 
--- "The answer is records, batches, payments (A records) and amount"; "All counts and totals in a refused answer are zero"
-unfoldable pub rowOf : PayrollAnswer → Row
-rowOf (Accepted a) =
-    record {
-      number = 0;
-      record-number = 0;
-      column = 0;
-      records = a .records;
-      batches = a .batches;
-      payments = a .payments;
-      amount = a .amount;
-    }
-rowOf (Refused r) =
-    record { number = numberOf (r .cause); record-number = r .«record»; column = r .column; records = 0; batches = 0; payments = 0; amount = 0 }
+abbrev pub noNumbers : Numbers
+noNumbers = record { records = 0; batches = 0; payments = 0; amount = 0 }
+
+-- "All counts and totals in a refused answer are zero"
+abbrev pub refusedRow : Refusal → PayrollRow
+refusedRow r = record { accepted = false; refusal = refusalRow r; numbers = noNumbers }
+
+-- "The answer is records, batches, payments (A records) and amount"
+unfoldable pub payrollRow : PayrollAnswer → PayrollRow
+payrollRow (Accepted a) = record { accepted = true; refusal = noRefusal; numbers = a }
+payrollRow (Refused r) = refusedRow r

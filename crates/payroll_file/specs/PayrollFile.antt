@@ -40,7 +40,7 @@ linesOf st (piece ∷ pieces) = linesOf (lineOf st piece) pieces
 abbrev pub accepted : Running → PayrollAnswer
 accepted st = Accepted (record { records = st .records; batches = st .batches; payments = st .payments; amount = st .amount })
 
--- behind the file trailer: "one byte 1A and nothing more (12 if it isn't there because the file ends, else 13)"
+-- "after the file trailer's CR LF one byte 1A and nothing more (12 if it isn't there because the file ends, else 13)"
 unfoldable pub endedOf : Running → List ℕ → PayrollAnswer
 endedOf st [] = refused (refusalAt EndsTooEarly 0 st)
 endedOf st (b ∷ s) = cond (sameBytes (b ∷ s) (26 ∷ [])) (accepted st) (refused (refusalAt BytesAfterTheEnd 0 st))

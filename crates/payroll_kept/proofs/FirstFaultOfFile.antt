@@ -21,6 +21,8 @@ use Rattle.payroll_run.specs.declared.running.Running.{Running}
 use Rattle.payroll_file.specs.declared.answer.Accepted.{Accepted}
 use Rattle.payroll_file.specs.declared.answer.PayrollAnswer.the-variants.{Accepted as isAccepted, Refused as refused}
 use Rattle.payroll_run.specs.State.{opened, nextNumber, refusalAt}
+use Rattle.payroll_file.specs.Answer.{payrollRow}
+use Rattle.payroll_file.proofs.FileRows.{same-answer, is-accepted}
 use Rattle.payroll_file.specs.PayrollFile.{unendedOf, lineOf, linesOf, accepted, endOf, checkOf}
 use Rattle.payroll_kept.specs.Accepts.{Accepts}
 use Rattle.payroll_kept.specs.FirstFault.{endRule, Going}
@@ -188,9 +190,16 @@ module _ (file : List ℕ) where
   to-keeps (breaks y w) a = accepted-no-refusal (sym (breaks-answer y w) ∙ a .answer)
 
   pub first-fault-decides : FirstFaultDecides file
+  unfolding payrollRow
   first-fault-decides =
       let v = verdict opened (cut file .pieces) (cut file .rest) in
       record {
-        is-refused = λ x. (to-fault v x, λ w. breaks-answer x (of-first-fault x w));
-        is-accepted = (to-keeps v, λ h. record { numbers = _; answer = keeps-answer (h .pieces-hold) (h .rest-holds) });
+        is-refused = λ x. (
+          λ e. to-fault v x (same-answer _ (refused x) e),
+          λ w. ap payrollRow (breaks-answer x (of-first-fault x w)),
+        );
+        is-accepted = (
+          λ e. to-keeps v (record { numbers = _; answer = is-accepted _ e }),
+          λ h. ap (λ answer. payrollRow answer .accepted) (keeps-answer (h .pieces-hold) (h .rest-holds)),
+        );
       }

@@ -12,11 +12,10 @@ use Rattle.text.specs.Literal.{sameBytes}
 use Rattle.totals.specs.Sum.{capped}
 use Rattle.lines.specs.Lines.{Lines, cut, endsInCr, withoutLast}
 use Rattle.payroll_run.specs.declared.running.Running.{Running}
-use Rattle.payroll_file.specs.declared.answer.PayrollAnswer.the-variants.{Refused as refused}
+use Rattle.payroll_file.specs.Answer.{refusedRow, payrollRow}
 use Rattle.payroll_run.specs.State.{opened}
 use Rattle.payroll_file.specs.PayrollFile.{lineOf, linesOf, checkOf}
 use Rattle.payroll_kept.specs.FirstFault.{ended, endRule, rulesFromWidth}
-use Rattle.payroll_kept.specs.Accepts.{Accepts}
 
 -- what comes next in a file: a piece that an LF ends, or what is left behind the last LF
 pub data Next : Type 0 where
@@ -60,5 +59,5 @@ pub record AllHoldInFile (file : List ℕ) : Type 0 where
 
 -- a file read whole: the first fault decides, and nothing else
 pub record FirstFaultDecides (file : List ℕ) : Type 0 where
-  pub is-refused : (refusal : Refusal) → (checkOf file ≡ refused refusal) ↔ FirstFaultOfFile file refusal
-  pub is-accepted : Accepts file ↔ AllHoldInFile file
+  pub is-refused : (refusal : Refusal) → (payrollRow (checkOf file) ≡ refusedRow refusal) ↔ FirstFaultOfFile file refusal
+  pub is-accepted : (payrollRow (checkOf file) .accepted ≡ true) ↔ AllHoldInFile file

@@ -56,7 +56,7 @@ batchesPayments (b ∷ bs) = b .payments ++ batchesPayments bs
 abbrev pub paymentsOf : File → List Payment
 paymentsOf f = batchesPayments (f .batches)
 
--- the sum of "the amounts of A", as a whole number: "Sums are whole numbers"
+-- the sum of "the amounts of A": "Sums are whole numbers: one too large for 18 digits equals no trailer and is refused by 11"
 abbrev pub amountAt : List ℕ → ℕ
 amountAt = numberAt 120 134
 

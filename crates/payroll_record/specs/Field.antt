@@ -1,4 +1,5 @@
--- Fields, and the rules of what they hold: "The fields below are digits (7) and are judged by position, by the number given".
+-- Fields, and the rules of what they hold: "The fields below are digits (7) and are judged by position, by the number given, trailer
+-- counts and sums by 11, all else by 8".
 use Prim.Native.Nat.{ℕ}
 use mathlib.Core.List.{List, [], _∷_}
 use mathlib.Core.Bool.{true, false}

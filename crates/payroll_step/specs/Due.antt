@@ -1,7 +1,8 @@
 -- The rules of a payroll record that the file so far decides: its place, the numbers that are due in it, by position, and the limits behind them.
 -- "batch 4-7, which is .. one more than the batches before it in a batch header, at most 9998, and the open batch's in the others (9). Detail number 9-13,
 -- from 1 in each batch, rising by one (9). .. Batch trailer: 18-23 counts its records, header and trailer included; 24-41 sums the amounts of A. File trailer:
--- 18-23 batches; 24-29 all records." A count or a sum stays at the top of 64 bits, a number of twenty digits: no field holds it.
+-- 18-23 batches; 24-29 all records." A count or a sum stays at the top of 64 bits, a number of twenty digits: no field holds it. "Sums are whole numbers:
+-- one too large for 18 digits equals no trailer and is refused by 11."
 use Prim.Native.Nat.{ℕ, _^_}
 use mathlib.Core.List.{List, [], _∷_}
 use lib.Dec.{leb, ltb}
@@ -27,7 +28,7 @@ use Rattle.payroll_run.specs.State.{nextNumber, nextBatch}
 abbrev pub placeRule : Running → Kind → Rule
 placeRule st kind = ruleAt KindNotAllowedHere 0 (placed (st .stage) (st .«is_return») kind)
 
--- a number that is due from a first to a last position, and the cause of a refusal where another stands there
+-- a number that is due from a first to a last position, and the cause of a refusal where another stands there: "by the number given, trailer counts and sums by 11"
 pub record Due : Type 0 where
   pub cause : Cause
   pub first : ℕ

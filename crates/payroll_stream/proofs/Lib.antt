@@ -1,2 +1,3 @@
 pub mod NoFurther
 pub mod InChunks
+pub mod ProgressRows

@@ -2,3 +2,4 @@ pub mod RefusalList
 pub mod Fault
 pub mod Rules
 pub mod Nowhere
+pub mod Row

@@ -6,7 +6,7 @@ use lib.ListN.{length, getD}
 use lib.Dec.{leb, eqb}
 use Rattle.refusal.specs.declared.Cause.the-variants.{KindUnknown, WrongWidth, FieldNotOffered}
 use Rattle.refusal.specs.Nowhere.{nowhere}
-use Rattle.refusal.specs.RefusalList.{numberOf}
+use Rattle.refusal.specs.Row.{RefusalRow, noRefusal, refusalRow}
 use Rattle.text.specs.Literal.{ascii, sameBytes}
 use Rattle.text.specs.Part.{positions, placeOf}
 use Rattle.card_content.specs.declared.content.Content.the-variants.{Text}
@@ -53,11 +53,6 @@ abbrev pub placeOfField : List ℕ → ℕ → ℕ
 placeOfField r n = placeAs (refusalOf r n) r n
 
 -- "a second question gives the number": the paper's row for each answer
-pub record Row : Type 0 where
-  pub number : ℕ
-  pub record-number : ℕ
-  pub column : ℕ
-
-unfoldable pub rowOf : FieldAnswer → Row
-rowOf Offered = record { number = 0; record-number = 0; column = 0 }
-rowOf (Refused x) = record { number = numberOf (x .cause); record-number = x .«record»; column = x .column }
+unfoldable pub fieldRow : FieldAnswer → RefusalRow
+fieldRow Offered = noRefusal
+fieldRow (Refused x) = refusalRow x

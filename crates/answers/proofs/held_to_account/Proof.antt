@@ -17,6 +17,7 @@ use Rattle.answers.proofs.PayrollFile.{payroll-file}
 use Rattle.answers.proofs.DaySheet.{day-sheet}
 use Rattle.answers.proofs.Cases.{cases}
 use Rattle.answers.proofs.Definitions.{definitions}
+use Rattle.answers.proofs.Variants.{variants}
 use Rattle.answers.proofs.Programs.{programs}
 use Rattle.answers.proofs.held_to_account.Statement.{statement}
 use Rattle.answers.proofs.held_to_account.Tie as tie
@@ -42,6 +43,7 @@ returns c =
       day-sheet = day-sheet;
       cases = cases;
       definitions = definitions;
+      variants = variants;
       programs = programs;
     }
 

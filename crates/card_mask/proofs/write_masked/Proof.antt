@@ -1,11 +1,9 @@
 -- `card_mask::write_masked` meets its contract: the file is copied, and the copy masked.
-use Prim.Native.Nat.{ℕ, _≤_}
-use mathlib.Core.Path.{_≡_, sym, _∙_, ap, ap₂}
-use mathlib.Core.List.{List, _++_}
-use native.Mathlib.Omega.{arith}
-use lib.ListN.{length, take, drop}
-use lib.Seq.{take-length, take-append-seam, drop-append-seam}
+use mathlib.Core.Path.{sym, _∙_, ap, ap₂}
+use mathlib.Core.List.{_++_}
+use lib.ListN.{length}
 use Rattle.card_mask.specs.Masked.{maskedFile}
+use Rattle.card_mask.proofs.InFront.{in-front, behind}
 use borrow.Author.Needs.{needs}
 use Rattle.card_mask.proofs.write_masked.Statement.{statement}
 use Rattle.card_mask.proofs.write_masked.Tie as tie
@@ -15,15 +13,6 @@ copy-requires c κs = search needs
 
 slice-relend-prefix-mask-lines : tie.Need-slice-relend-prefix-mask-lines
 slice-relend-prefix-mask-lines c = search needs
-
--- what copying leaves: the file in front, and the output behind it
-in-front : (file out : List ℕ) {l : List ℕ} → l ≡ take (length file) file ++ drop (length file) out → take (length file) l ≡ file
-in-front file out e =
-    ap (take (length file)) (e ∙ ap (λ (f : List ℕ). f ++ drop (length file) out) (take-length file)) ∙ take-append-seam file (drop (length file) out)
-
-behind : (file out : List ℕ) {l : List ℕ} → l ≡ take (length file) file ++ drop (length file) out → drop (length file) l ≡ drop (length file) out
-behind file out e =
-    ap (drop (length file)) (e ∙ ap (λ (f : List ℕ). f ++ drop (length file) out) (take-length file)) ∙ drop-append-seam file (drop (length file) out)
 
 slice-aggregate-mask-lines : tie.Need-slice-aggregate-mask-lines
 slice-aggregate-mask-lines c =

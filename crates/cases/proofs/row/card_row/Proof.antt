@@ -1,13 +1,13 @@
 -- `cases::row::card_row` meets its contract, in each case.
 use mathlib.Core.Path.{sym, ap, _∙_}
-use Rattle.card_run.specs.Answer.{rowOf}
+use Rattle.card_run.specs.Answer.{cardFileRow}
 use Rattle.cases.specs.CardNumbers.{cardNumbers}
 use borrow.Author.Needs.{needs}
 use Rattle.cases.proofs.row.card_row.Statement.{statement}
 use Rattle.cases.proofs.row.card_row.Tie as tie
 
 returns : tie.Need-returns
-unfolding rowOf
+unfolding cardFileRow
 returns c = sym (rw (c .enum-told .given .1))
 
 returns-2 : tie.Need-returns-2

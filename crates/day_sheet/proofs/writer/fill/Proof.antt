@@ -4,7 +4,7 @@ use mathlib.Core.Path.{_∙_, ap₂}
 use mathlib.Core.List.{List, _++_}
 use lib.ListN.{drop}
 use lib.Dec.{lit≤}
-use Rattle.day_sheet.specs.Layout.{restBytes}
+use Rattle.day_sheet.specs.Halves.{restBytes}
 use Rattle.day_sheet.proofs.Filling.{front-of, rest-of}
 use Rattle.day_sheet.proofs.Places.{front-filled, whole}
 use borrow.Author.Needs.{needs}

@@ -10,10 +10,10 @@ is-allowed-requires : tie.Need-is-allowed-requires
 is-allowed-requires c κs = search needs
 
 returns : tie.Need-returns
-returns c = numbers-refused _ _ (sym (c .before .is-allowed .ensures) ∙ not-true _ (c .if1 .taken))
+returns c = numbers-refused _ _ (c .nowhere .ensures) (sym (c .before .before .is-allowed .ensures) ∙ not-true _ (c .before .if1 .taken))
 
 returns-2 : tie.Need-returns-2
-returns-2 c = too-short _ _ (sym (c .before .before .is-allowed .ensures) ∙ not-false _ (c .before .if1 .left)) (c .if2 .taken)
+returns-2 c = too-short _ _ (c .nowhere2 .ensures) (sym (c .before .before .before .is-allowed .ensures) ∙ not-false _ (c .before .before .if1 .left)) (c .before .if2 .taken)
 
 fill-requires : tie.Need-fill-requires
 fill-requires c κs = search needs
@@ -27,4 +27,4 @@ returns-3 c =
 
 pub write-spec : {M : Type 1} → statement M
 write-spec =
-    tie.close (tie.spec is-allowed-requires returns returns-2 fill-requires same-length returns-3)
+    tie.close (tie.spec is-allowed-requires (λ c κs. tt) returns (λ c κs. tt) returns-2 fill-requires same-length returns-3)

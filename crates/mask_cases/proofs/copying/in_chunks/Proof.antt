@@ -5,17 +5,22 @@ use lib.ListN.{length}
 use borrow.Author.Needs.{needs}
 use borrow.Author.Tests.{le-leb, lt-leb}
 use Rattle.card_mask.specs.Masked.{maskedFile}
-use Rattle.mask_cases.proofs.Copies.{front, back}
+use Rattle.card_mask.proofs.InFront.{in-front, behind}
 use Rattle.mask_cases.proofs.copying.in_chunks.Statement.{statement}
 use Rattle.mask_cases.proofs.copying.in_chunks.Tie as tie
+
+slice-aggregate-mask-in-chunks : tie.Need-slice-aggregate-mask-in-chunks
+slice-aggregate-mask-in-chunks c =
+    let a = c .before .before .before .before .before .before .before .before .args in
+    sym (ap length (in-front (a .file .now) (a .out .now) (c .before .before .before .copy .ensures .1)))
 
 returns : tie.Need-returns
 returns c =
     let start = c .before .before .before .before .before .before .before .before .before .before .before in
     let copied = c .before .before .before .before .before .before .copy .ensures .1 in
     rw (le-leb _ _ (c .before .before .before .before .before .before .before .before .if1 .taken))
-    (ap₂ _++_ (c .before .before .mask-in-chunks .ensures ∙ ap maskedFile (front (start .args .file .now) (start .args .out .now) copied))
-    (back (start .args .file .now) (start .args .out .now) copied))
+    (ap₂ _++_ (c .before .before .mask-in-chunks .ensures ∙ ap maskedFile (in-front (start .args .file .now) (start .args .out .now) copied))
+    (behind (start .args .file .now) (start .args .out .now) copied))
 
 returns-2 : tie.Need-returns-2
 returns-2 c = rw (lt-leb _ _ (c .if1 .left))
@@ -26,8 +31,7 @@ in-chunks-spec =
     (tie.spec
     (λ c κs. search needs)
     (λ c. search needs)
-    (λ c. search needs)
-    (λ c. search needs)
+    slice-aggregate-mask-in-chunks
     (λ c κs. search needs)
     (λ c. search needs)
     returns

@@ -3,7 +3,7 @@ use Prim.Native.Nat.{_-_, _≤_}
 use mathlib.Core.Path.{_≡_}
 use native.Mathlib.Omega.{arith}
 use lib.ListN.{length, drop, length-take}
-use Rattle.mask_program.specs.Masking.{keptSize}
+use Rattle.mask_program.specs.Masking.{waitingSize}
 use Rattle.mask_program.proofs.Waiting.{leaves-room, waits-in-front}
 use Rattle.mask_program.proofs.Finished.{finished-in-front}
 use borrow.Author.Needs.{needs}
@@ -21,8 +21,8 @@ part-write-end c = omega (arith, finished (c .before .before .before))
 move-to-front-requires : tie.Need-move-to-front-requires
 move-to-front-requires c κs = (finished (c .before .before .before .before .before .before .before), search needs)
 
-sub-tail-kept : tie.Need-sub-tail-kept
-sub-tail-kept c = finished (c .before .before .before .before .before .before .before .before .before .before)
+sub-tail-size : tie.Need-sub-tail-size
+sub-tail-size c = finished (c .before .before .before .before .before .before .before .before .before .before)
 
 returns-2 : tie.Need-returns-2
 returns-2 c =
@@ -33,8 +33,8 @@ returns-2 c =
     omega (arith, v .ensures .same, c .before .before .before .before .before .before .before .before .before .before .buffer .given) in
     let l : length (b .mask-lines .last .0) ≡ a .end =
     omega (arith, c .before .before .before .before .before .before .before .before .before .before .buffer .given, length-take (a .end - 0) (drop 0 (a .buffer .now)), c .before .before .before .before .before .before .before .before .before .before .before .before .before .before .pre .1) in
-    let k : c .tail-kept .result ≡ keptSize (a .end - b .mask-lines .result) (length (a .buffer .now)) =
-    rw same at (c .tail-kept .ensures) in (
+    let k : c .tail-size .result ≡ waitingSize (a .end - b .mask-lines .result) (length (a .buffer .now)) =
+    rw same at (c .tail-size .ensures) in (
       rw (k, same) (leaves-room (a .end - b .mask-lines .result) (length (a .buffer .now)) (c .before .before .before .before .before .before .before .before .before .before .before .before .before .before .pre .0)),
       waits-in-front (a .buffer .now) (b .mask-lines .last .0) _ (v .last .0) (a .end) (b .mask-lines .result) _ _ (b .mask-lines .ensures .counts)
           (b .mask-lines .ensures .leaves) l (finished b) (v .ensures .front) k,
@@ -55,7 +55,7 @@ write-lines-spec =
     (λ c. search needs)
     (λ c. search needs)
     move-to-front-requires
-    sub-tail-kept
+    sub-tail-size
     (λ c κs. search needs)
     (λ c. search needs)
     returns-2)

@@ -4,7 +4,7 @@ use mathlib.Core.Path.{_≡_}
 use native.Mathlib.Omega.{arith}
 use lib.ListN.{length}
 use Rattle.payroll_cases.specs.Made.{made, putAll, paymentsOf}
-use Rattle.payroll_cases.proofs.Making.{none-paid, one-paid}
+use Rattle.payroll_cases.proofs.Making.{put-as, none-paid, one-paid}
 use borrow.Author.Needs.{needs}
 use Rattle.payroll_cases.proofs.made.put_payments.Statement.{statement}
 use Rattle.payroll_cases.proofs.made.put_payments.Tie as tie
@@ -23,9 +23,9 @@ loop-holds c =
 
 loop-again : tie.Need-loop-again Inv-loop μ-loop
 loop-again c =
-    let l = c .before .before .before .before .before .loop in
-    let a = c .before .before .before .before .before .before .before .args in
-    (search needs, search needs, one-paid (made (a .out .now) (a .at)) (a .batch) (a .amount) (l .number) (l .inv .2) (c .before .before .put .ensures))
+    let l = c .before .before .before .before .before .before .loop in
+    let a = c .before .before .before .before .before .before .before .before .args in
+    (search needs, search needs, one-paid (made (a .out .now) (a .at)) (a .batch) (a .amount) (l .number) (l .inv .2) (put-as _ (c .before .before .before .before .payment .ensures) (c .before .before .put .ensures)))
 
 returns : tie.Need-returns Inv-loop μ-loop
 returns c =
@@ -41,7 +41,8 @@ put-payments-spec =
     μ-loop
     loop-holds
     (λ c. search needs)
-    (λ c κs. search needs)
+    (λ c κs. tt)
+    (λ c κs. tt)
     (λ c. search needs)
     loop-again
     (λ c. search needs)

@@ -1,0 +1,112 @@
+-- The variants of the demands do not hold: each is refuted on a file or a state, by computation.
+use Prim.Native.Nat.{ℕ, suc}
+use mathlib.Core.Path.{_≡_, refl, sym, _∙_}
+use mathlib.Core.List.{[], _∷_, _++_}
+use mathlib.Core.Bool.{false≢true}
+use native.Mathlib.Omega.{arith}
+use lib.ListN.{length, getD, replicate}
+use lib.Dec.{lit<}
+use Rattle.refusal.specs.declared.Cause.the-variants.{EditionUnknown, SequenceWrong}
+use Rattle.refusal.specs.Nowhere.{nowhere}
+use Rattle.refusal.specs.Rules.{firstBroken}
+use Rattle.text.specs.Alphabet.{allowed, holdsOnly, firstStray}
+use Rattle.text.specs.Number.{valueFrom}
+use Rattle.text.specs.Literal.{ascii, sameBytes, hasByte, oneByteOf}
+use Rattle.calendar.specs.Month.{daysIn}
+use Rattle.calendar.specs.Day.{isDay}
+use Rattle.calendar.specs.Time.{isTime}
+use Rattle.calendar.specs.When.{whenRules}
+use Rattle.pan.specs.CardField.{wellFormed, leadingZeros}
+use Rattle.pan.specs.HiddenPlaces.{hiddenPlaces}
+use Rattle.pan.specs.Masked.{starWhere}
+use Rattle.lines.specs.Lines.{inFront, cut, joined, endsInCr, withoutLast, rejoined}
+use Rattle.card_content.specs.Content.{inSet, contentRules}
+use Rattle.card_content.specs.Field.{tableRules, recordRules}
+use Rattle.card_sale.specs.Cv.{joinedRules}
+use Rattle.card_record.specs.CardPart.{cardPartFound}
+use Rattle.card_record.specs.Kind.{kindNamed}
+use Rattle.card_record.specs.Reading.{rightReading, judgedAs, readFound}
+use Rattle.card_run.specs.Answer.{answerAt, cardFileRow}
+use Rattle.edition.specs.Known.{known}
+use Rattle.card_run.specs.Running.{closedAt, lateAt}
+use Rattle.card_step.specs.Rules.{joinedAt, rulesOf}
+use Rattle.card_step.specs.Behind.{behind}
+use Rattle.card_step.specs.Step.{behindOrRefused, tookAt}
+use Rattle.card_file.specs.CardFile.{unendedAt, linesOf, endOf}
+use Rattle.card_run.specs.declared.stage.Stage.the-variants.{InBatch, Refused}
+use Rattle.card_run.specs.Running.{openOf}
+use Rattle.card_file.specs.Feeding.{fedAll}
+use Rattle.card_file.specs.Room.{answerWithRoom}
+use Rattle.card_mask.specs.Masked.{maskedAt}
+use Rattle.card_mask.specs.Mask.{maskedInto}
+use Rattle.chunks.specs.Unfinished.{clippedWith}
+use Rattle.chunks.specs.Chunks.{heldBefore, joinedChunks}
+use Rattle.card_stream.specs.Stream.{openOf as streamOpen, behindEnd, withHeld}
+use Rattle.payroll_record.specs.Field.{numberRules}
+use Rattle.payroll_record.specs.Front.{strayAt}
+use Rattle.payroll_record.specs.Kind.{segmentNamed, kindNamed as payrollKindNamed}
+use Rattle.payroll_record.specs.Reading.{readAs, readFound as payrollReadFound}
+use Rattle.payroll_step.specs.Rules.{foundRules, dueRules, rulesOf as payrollRunRules}
+use Rattle.payroll_run.specs.Behind.{behindDetailAs, behind as payrollBehind}
+use Rattle.payroll_step.specs.Step.{behindOrRefused as payrollBehindOrRefused, tookAt as payrollTookAt}
+use Rattle.payroll_file.specs.PayrollFile.{
+  unendedAt as payrollUnendedAt,
+  linesOf as payrollLinesOf,
+  endedOf,
+  cutShortOf,
+  endAt,
+}
+use Rattle.payroll_file.specs.Answer.{payrollRow}
+use Rattle.payroll_run.specs.declared.stage.Stage.the-variants.{Refused as payrollRefused}
+use Rattle.payroll_run.specs.State.{opened, moved}
+use Rattle.day_sheet.specs.Number.{inBase, valueIn}
+use Rattle.day_sheet.specs.Layout.{inPlaces, fromPlaces}
+use Rattle.day_sheet.specs.Sheet.{totalsAllowed, sheetAllowed}
+use Rattle.day_sheet.specs.Reading.{readNumbers, readOf}
+use Rattle.day_sheet.specs.Answer.{readRow}
+use Rattle.demands.specs.Demands.{Demands}
+use Rattle.demands.specs.Examples.{asWritten, allAsWritten}
+use Rattle.demands.specs.Feeding.{called}
+use Rattle.demands.specs.HiddenDigits.{hiddenAt, hiddenInPieces}
+use Rattle.answers.specs.CardRun.{state, refusal, noSale, oneSale}
+use Rattle.answers.specs.DaySheet.{sheetOf}
+use Rattle.answers.specs.Samples.{at, sale, cardFile, cardFileOf, fileHeader, batchHeader, payment, batchTrailer, fileTrailer, payrollFile}
+use Rattle.answers.specs.Variants.{Variants}
+use Rattle.answers.proofs.Told.{told, bit}
+
+-- no number is one more than itself: 0 is no record of a file
+not-first : (n : ℕ) → 0 ≡ suc n → ⊥
+not-first n e = omega arith
+
+pub variants : (d : Demands) → Variants d
+unfolding known firstBroken allowed holdsOnly valueFrom sameBytes hasByte oneByteOf daysIn isDay isTime whenRules wellFormed leadingZeros hiddenPlaces starWhere inFront cut joined endsInCr withoutLast rejoined inSet contentRules tableRules recordRules joinedRules cardPartFound kindNamed rightReading judgedAs readFound answerAt cardFileRow joinedAt rulesOf behind behindOrRefused tookAt closedAt unendedAt linesOf endOf lateAt fedAll answerWithRoom maskedAt maskedInto clippedWith heldBefore joinedChunks behindEnd withHeld firstStray numberRules strayAt segmentNamed payrollKindNamed readAs payrollReadFound foundRules dueRules payrollRunRules behindDetailAs payrollBehind payrollBehindOrRefused payrollTookAt payrollUnendedAt payrollLinesOf endedOf cutShortOf endAt payrollRow inBase valueIn inPlaces fromPlaces totalsAllowed sheetAllowed readNumbers readOf readRow asWritten allAsWritten called hiddenAt hiddenInPieces
+variants d =
+    record {
+      record-judged = λ wrong.
+          let x = refusal SequenceWrong 3 194 in
+          told (λ n. n) refl (wrong (state (Refused x) 5 oneSale) sale .is-refused x .0 refl .number);
+      edition-first = λ wrong. told (λ row. bit (row .accepted)) refl (wrong 2 cardFile);
+      file-judged = λ wrong. not-first _ (wrong 3 [] .is-refused (nowhere EditionUnknown) .0 refl .number);
+      payroll-record-judged = λ wrong.
+          let x = refusal SequenceWrong 3 4 in
+          told (λ n. n) refl (wrong (moved (payrollRefused x) 5 1 1 10000 (opened .batch) opened) payment .is-refused x .0 refl .number);
+      payroll-file-judged = λ wrong.
+          let file = joined (fileHeader ∷ batchHeader ∷ payment ∷ batchTrailer ∷ fileTrailer ∷ []) in
+          false≢true (wrong file .1 (d .payroll-file-judged payrollFile .is-accepted .0 refl .pieces-hold));
+      refused-leaves-alone = λ wrong.
+          told (λ s. getD s 0 0) refl (wrong 2 cardFile (replicate (length cardFile) 0) _ _ (record { answers = refl; leaves = refl }));
+      card-rules-kept = λ wrong. false≢true (wrong 3 cardFile .1 (d .card-rules-kept .exactly 2 cardFile .0 refl));
+      payroll-rules-kept = λ wrong. false≢true (d .payroll-rules-kept .exactly (payrollFile ++ (26 ∷ [])) .1 (wrong payrollFile .0 refl));
+      sheet-there-and-back = λ wrong. told (λ row. row .refusal .number) refl (wrong (sheetOf 3 9750));
+      fed-as-whole = λ wrong. told (λ row. row .refusal .number) refl (wrong 2 (ascii "A0\n" ∷ []) .closed);
+      refused-for-good = λ wrong. told (λ row. row .refusal .number) refl (wrong (openOf 2) (refusal SequenceWrong 3 194) []);
+      bad-edition = λ wrong. told (λ row. row .refusal .number) refl (wrong 2 []);
+      after-accepted-close = λ wrong. told (λ row. row .refusal .number) refl (wrong (state InBatch 3 oneSale) .close-more);
+      one-past-the-last = λ wrong. told (λ n. n) refl (wrong 3 (sale ∷ []));
+      in-chunks = λ wrong. told (λ row. row .refusal .number) refl (wrong 2 []);
+      after-the-end = λ wrong. told (λ row. row .refusal .number) refl (wrong (streamOpen 2) 65 []);
+      hidden-digits-reach-nothing = λ wrong. told (λ row. bit (row .accepted)) refl (wrong 2 cardFile (cardFileOf (at 77 "00000009751" sale)) refl);
+      masked-where-hidden = λ wrong. told (λ n. n) refl (sym (d .masked-where-hidden cardFile .at-each 192 (lit< tt)) ∙ wrong cardFile 192);
+      twins-that-differ = d .twins-that-differ .differ;
+      examples-hold = λ wrong. false≢true wrong;
+    }

@@ -1,0 +1,91 @@
+-- What the demands are held to: of each a variant with a hypothesis dropped or a definition changed, which does not hold. Each names the field that it
+-- is a variant of.
+use Prim.Native.Nat.{ℕ, _+_}
+use mathlib.Core.Path.{_≡_}
+use mathlib.Core.Logic.{_↔_}
+use mathlib.Core.List.{List, [], _∷_, _++_}
+use mathlib.Core.Bool.{true, cond}
+use lib.ListN.{length, getD}
+use Rattle.refusal.specs.declared.Refusal.{Refusal}
+use Rattle.refusal.specs.Row.{noRefusal}
+use Rattle.lines.specs.Lines.{cut}
+use Rattle.chunks.specs.Chunks.{joinedChunks}
+use Rattle.card_run.specs.declared.running.Running.{Running}
+use Rattle.card_run.specs.declared.answer.CardAnswer.{CardAnswer}
+use Rattle.card_run.specs.Answer.{refusedRow, cardFileRow}
+use Rattle.card_file.specs.CardFile.{checkOf}
+use Rattle.card_kept.specs.FirstFault.{FirstFaultOfRecord, EditionFirst, FirstFaultDecides}
+use Rattle.card_kept.specs.Kept.{Kept}
+use Rattle.card_mask.specs.Mask.{Masks}
+use Rattle.card_mask.specs.Masked.{maskedFile}
+use Rattle.card_stream.specs.declared.Stream.{Stream}
+use Rattle.card_stream.specs.Stream as stream
+use Rattle.payroll_run.specs.declared.running.Running.{Running as PayrollRunning}
+use Rattle.payroll_run.specs.State.{opened}
+use Rattle.payroll_file.specs.Answer.{payrollRow}
+use Rattle.payroll_file.specs.PayrollFile.{checkOf as payrollCheckOf}
+use Rattle.payroll_kept.specs.FirstFault as payroll-record
+use Rattle.payroll_kept.specs.FirstFaultOfFile as payroll-file
+use Rattle.payroll_kept.specs.Kept as payroll
+use Rattle.day_sheet.specs.declared.sheet.Sheet.{Sheet}
+use Rattle.day_sheet.specs.Layout.{bytesOf}
+use Rattle.day_sheet.specs.Reading.{readOf}
+use Rattle.day_sheet.specs.Answer.{readRow}
+use Rattle.demands.specs.Demands.{Demands}
+use Rattle.demands.specs.Examples.{Example, agrees, allAsWritten}
+use Rattle.demands.specs.Feeding.{FedAsWhole, RefusedForGood, BadEdition, AfterAcceptedClose, OnePastTheLast, afterTheEnd}
+use Rattle.demands.specs.HiddenDigits.{hiddenIn}
+use Rattle.demands.specs.HiddenDigitsExample.{oneFile, otherFile}
+use Rattle.demands.specs.InChunks.{cardTaken}
+
+-- a demand, and a variant of it that does not hold
+abbrev pub NotSo : {Right : Type 0} → Right → Type 0 → Type 0
+NotSo right Wrong = Wrong → ⊥
+
+pub record Variants (d : Demands) : Type 0 where
+  -- of a state that is refused too
+  pub record-judged : NotSo (d .record-judged) ((st : Running) (r : List ℕ) → FirstFaultOfRecord st r)
+  -- under a known edition too
+  pub edition-first : NotSo (d .edition-first) ((edition : ℕ) → EditionFirst edition)
+  -- under an edition that is not known too
+  pub file-judged : NotSo (d .file-judged) ((edition : ℕ) (file : List ℕ) → FirstFaultDecides edition file)
+  -- of a state that is refused too
+  pub payroll-record-judged : NotSo (d .payroll-record-judged) ((st : PayrollRunning) (r : List ℕ) → payroll-record.FirstFaultOfRecord st r)
+  -- what stands behind the last LF not looked at
+  pub payroll-file-judged : NotSo (d .payroll-file-judged)
+      ((file : List ℕ) → (payrollRow (payrollCheckOf file) .accepted ≡ true) ↔ (payroll-file.piecesHold opened (cut file .pieces) ≡ true))
+  -- of an accepted file too
+  pub refused-leaves-alone : NotSo (d .refused-leaves-alone)
+      ((edition : ℕ) (file out : List ℕ) (answer : CardAnswer) (after : List ℕ) → Masks edition file out answer after → after ≡ out)
+  -- the edition not looked at
+  pub card-rules-kept : NotSo (d .card-rules-kept)
+      ((edition : ℕ) (bytes : List ℕ) → (cardFileRow (checkOf edition bytes) .accepted ≡ true) ↔ Kept 2 bytes)
+  -- a second byte 1A at the end
+  pub payroll-rules-kept : NotSo (d .payroll-rules-kept)
+      ((bytes : List ℕ) → (payrollRow (payrollCheckOf bytes) .accepted ≡ true) ↔ payroll.Kept (bytes ++ (26 ∷ [])))
+  -- of numbers that are not allowed too
+  pub sheet-there-and-back : NotSo (d .sheet-there-and-back) ((s : Sheet) → readRow (readOf (bytesOf s)) ≡ record { refusal = noRefusal; sheet = s })
+  -- of records with an LF too
+  pub fed-as-whole : NotSo (d .fed-as-whole) ((edition : ℕ) (records : List (List ℕ)) → FedAsWhole edition records)
+  -- of a state that is not refused too
+  pub refused-for-good : NotSo (d .refused-for-good) ((st : Running) (refusal : Refusal) → RefusedForGood st refusal)
+  -- under a known edition too
+  pub bad-edition : NotSo (d .bad-edition) ((edition : ℕ) → BadEdition edition)
+  -- of a file that is not accepted too
+  pub after-accepted-close : NotSo (d .after-accepted-close) ((st : Running) → AfterAcceptedClose st)
+  pub one-past-the-last : NotSo (d .one-past-the-last) ((edition : ℕ) (records : List (List ℕ)) → OnePastTheLast edition records)
+  -- before the end
+  pub in-chunks : NotSo (d .in-chunks)
+      ((edition : ℕ) (chunks : List (List ℕ)) → cardFileRow (stream.answerOf (cardTaken edition chunks)) ≡ cardFileRow (checkOf edition (joinedChunks chunks)))
+  pub after-the-end : NotSo (d .after-the-end)
+      ((s : Stream) (b : ℕ) (chunk : List ℕ) → cardFileRow (stream.answerOf (stream.takenOf s (b ∷ chunk))) ≡ refusedRow (afterTheEnd (s .state)))
+  -- of any two files of the same length
+  pub hidden-digits-reach-nothing : NotSo (d .hidden-digits-reach-nothing)
+      ((edition : ℕ) (s t : List ℕ) → length s ≡ length t → cardFileRow (checkOf edition s) ≡ cardFileRow (checkOf edition t))
+  -- the places one late
+  pub masked-where-hidden : NotSo (d .masked-where-hidden)
+      ((file : List ℕ) (i : ℕ) → getD (maskedFile file) i 0 ≡ cond (hiddenIn file (i + 1)) 42 (getD file i 0))
+  -- one file and itself
+  pub twins-that-differ : NotSo (d .twins-that-differ) (oneFile ≡ otherFile)
+  -- net 9751 agrees
+  pub examples-hold : NotSo (d .examples-hold) (allAsWritten (agrees "00000010000" "00000000250" "00000009751" ∷ []) ≡ true)

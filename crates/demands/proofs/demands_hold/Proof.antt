@@ -1,0 +1,46 @@
+-- `demands::demands_hold` meets its contract: the theorems, gathered.
+use mathlib.Core.Path.{_∙_}
+use Rattle.card_run.specs.Answer.{answerOf, cardFileRow}
+use Rattle.card_run.specs.declared.answer.CardAnswer.the-variants.{Refused}
+use Rattle.card_run.proofs.FileRows.{same-answer, refusal-told, is-accepted}
+use Rattle.card_kept.proofs.FirstFault.{first-fault-of-record, edition-first, first-fault-decides}
+use Rattle.payroll_kept.proofs.FirstFault as payroll-record
+use Rattle.payroll_kept.proofs.FirstFaultOfFile as payroll-file
+use Rattle.demands.proofs.Examples.{hold}
+use Rattle.demands.proofs.Feeding.{fed-as-whole, refused-for-good, bad-edition, after-accepted-close, one-past-the-last}
+use Rattle.demands.proofs.HiddenDigits.{hidden-digits-reach-nothing, masked-where-hidden}
+use Rattle.demands.proofs.HiddenDigitsExample.{twins-that-differ}
+use Rattle.demands.proofs.InChunks.{as-the-whole, after-the-end}
+use Rattle.demands.proofs.LentBuffers.{refused-leaves-alone}
+use Rattle.demands.proofs.RulesKept.{card-rules-kept, payroll-rules-kept, sheet-there-and-back}
+use Rattle.demands.proofs.demands_hold.Statement.{statement}
+use Rattle.demands.proofs.demands_hold.Tie as tie
+
+returns : tie.Need-returns
+unfolding cardFileRow
+returns c =
+    record {
+      record-judged = λ st r going. first-fault-of-record st r (refusal-told (answerOf st) .1 going);
+      edition-first = edition-first;
+      file-judged = first-fault-decides;
+      payroll-record-judged = payroll-record.first-fault-of-record;
+      payroll-file-judged = payroll-file.first-fault-decides;
+      refused-leaves-alone = refused-leaves-alone;
+      card-rules-kept = card-rules-kept;
+      payroll-rules-kept = payroll-rules-kept;
+      sheet-there-and-back = sheet-there-and-back;
+      fed-as-whole = fed-as-whole;
+      refused-for-good = λ st refusal e. refused-for-good st refusal (same-answer (answerOf st) (Refused refusal) e);
+      bad-edition = bad-edition;
+      after-accepted-close = λ st e. after-accepted-close st _ (is-accepted (answerOf st) e);
+      one-past-the-last = λ edition records e. one-past-the-last edition records _ (is-accepted _ e);
+      in-chunks = as-the-whole;
+      after-the-end = after-the-end;
+      hidden-digits-reach-nothing = hidden-digits-reach-nothing;
+      masked-where-hidden = masked-where-hidden;
+      twins-that-differ = twins-that-differ;
+      examples-hold = hold;
+    }
+
+pub demands-hold-spec : {M : Type 1} → statement M
+demands-hold-spec = tie.close (tie.spec returns)

@@ -1,0 +1,64 @@
+-- THE DEMANDS, as one closed statement: each with all its hypotheses, over every input, through the paper's rows.
+use Prim.Native.Nat.{ℕ}
+use mathlib.Core.Path.{_≡_}
+use mathlib.Core.List.{List}
+use mathlib.Core.Bool.{true, false}
+use Rattle.refusal.specs.declared.Refusal.{Refusal}
+use Rattle.refusal.specs.Row.{noRefusal}
+use Rattle.lines.specs.Lines.{allNoLf}
+use Rattle.edition.specs.Known.{known}
+use Rattle.card_run.specs.declared.running.Running.{Running}
+use Rattle.card_run.specs.Running.{openOf, closedOf}
+use Rattle.card_run.specs.Answer.{answerOf, refusedRow, cardFileRow}
+use Rattle.card_file.specs.Feeding.{fedAll}
+use Rattle.card_kept.specs.FirstFault.{FirstFaultOfRecord, EditionFirst, FirstFaultDecides}
+use Rattle.payroll_run.specs.declared.running.Running.{Running as PayrollRunning}
+use Rattle.payroll_kept.specs.FirstFault as payroll-record
+use Rattle.payroll_kept.specs.FirstFaultOfFile as payroll-file
+use Rattle.demands.specs.Examples.{examples, allAsWritten}
+use Rattle.demands.specs.Feeding.{FedAsWhole, RefusedForGood, BadEdition, AfterAcceptedClose, OnePastTheLast}
+use Rattle.demands.specs.HiddenDigits.{HiddenDigitsReachNothing, MaskedWhereHidden}
+use Rattle.demands.specs.HiddenDigitsExample.{TwinsThatDiffer}
+use Rattle.demands.specs.InChunks.{AsTheWhole, AfterTheEnd}
+use Rattle.demands.specs.LentBuffers.{RefusedLeavesAlone}
+use Rattle.demands.specs.RulesKept.{CardRulesKept, PayrollRulesKept, SheetThereAndBack}
+
+pub record Demands : Type 0 where
+  -- DEMAND 1. "A refusal gives number, record and column .. at the first fault in 01's order, and no lent byte has changed"
+
+  -- a record fed to a state that is not refused
+  pub record-judged : (st : Running) (r : List ℕ) → cardFileRow (answerOf st) .refusal ≡ noRefusal → FirstFaultOfRecord st r
+  -- "Order: 1, then ..": whatever the file is, under an edition that is not known
+  pub edition-first : (edition : ℕ) → known edition ≡ false → EditionFirst edition
+  -- and under one that is
+  pub file-judged : (edition : ℕ) → known edition ≡ true → (file : List ℕ) → FirstFaultDecides edition file
+  -- a payroll record taken by a state that is not refused, and a payroll file
+  pub payroll-record-judged : (st : PayrollRunning) (r : List ℕ) → payroll-record.Going st → payroll-record.FirstFaultOfRecord st r
+  pub payroll-file-judged : (file : List ℕ) → payroll-file.FirstFaultDecides file
+  -- what is lent
+  pub refused-leaves-alone : RefusedLeavesAlone
+  -- DEMAND 2. "Accepted exactly when 01's rules are kept. Counts, totals, masked copy are those defined there"
+  pub card-rules-kept : CardRulesKept
+  pub payroll-rules-kept : PayrollRulesKept
+  -- "A day sheet that we write reads back as the same numbers, and a readable sheet is the one we would write"
+  pub sheet-there-and-back : SheetThereAndBack
+  -- "Feeding records one by one ends as reading the whole does": "Equality with the whole holds for records without LF"
+  pub fed-as-whole : (edition : ℕ) (records : List (List ℕ)) → allNoLf records ≡ true → FedAsWhole edition records
+  -- "Once refused, every later call gives that same refusal"
+  pub refused-for-good : (st : Running) (refusal : Refusal) → cardFileRow (answerOf st) ≡ refusedRow refusal → RefusedForGood st refusal
+  pub bad-edition : (edition : ℕ) → known edition ≡ false → BadEdition edition
+  -- "After an accepted close, a further record is 13 and a further close the same answer"
+  pub after-accepted-close : (st : Running) → cardFileRow (answerOf st) .accepted ≡ true → AfterAcceptedClose st
+  pub one-past-the-last : (edition : ℕ) (records : List (List ℕ)) →
+      cardFileRow (answerOf (closedOf (fedAll (openOf edition) records))) .accepted ≡ true → OnePastTheLast edition records
+  -- in chunks of any size
+  pub in-chunks : AsTheWhole
+  pub after-the-end : AfterTheEnd
+  -- DEMAND 3. "Two files that differ only in hidden digits get the same verdict, refusal, counts, totals, sheet and output bytes"
+  pub hidden-digits-reach-nothing : HiddenDigitsReachNothing
+  -- "The masked copy is the accepted file with a star at each such place"
+  pub masked-where-hidden : (file : List ℕ) → MaskedWhereHidden file
+  -- there are such files
+  pub twins-that-differ : TwinsThatDiffer
+  -- THE EXAMPLES marked (p)
+  pub examples-hold : allAsWritten examples ≡ true
