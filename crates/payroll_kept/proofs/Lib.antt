@@ -12,7 +12,6 @@ pub mod Left
 pub mod Inverting
 pub mod Numbers
 pub mod KeptMeansKept
-pub mod Faults
 pub mod Known
 pub mod AtItsPlace
 pub mod FirstFault

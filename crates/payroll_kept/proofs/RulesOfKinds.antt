@@ -26,10 +26,9 @@ use Rattle.payroll_record.proofs.RightRecords.{FrontRight, HeaderRight, front-r
 use Rattle.payroll_run.specs.declared.running.Running.{Running}
 use Rattle.payroll_run.specs.Stage.{placed}
 use Rattle.payroll_step.specs.Due.{placeRule, Due, dueInDetail, dueOf}
-use Rattle.payroll_step.specs.Rules.{foundRules, dueRules, judgedRules, rulesOf}
+use Rattle.payroll_step.specs.Rules.{foundRules, dueRules, numbersIn, judgedRules, rulesOf}
 use Rattle.payroll_kept.specs.Fields.{Holds}
 use Rattle.payroll_kept.proofs.Rules.{rows, found, number-holds, at-most-holds, below-holds}
-use Rattle.payroll_kept.proofs.Faults.{numbersIn}
 use Rattle.payroll_kept.proofs.Plain.{cap, cap-more}
 
 module _ (st : Running) (r : List ℕ) where

@@ -1,6 +1,5 @@
--- THE FIRST FAULT: document 01's rules of a payroll record at its place, in one order, of which a refusal is the first that is broken. What the file so far
--- decides of them is the list that running goes by (`dueOf`, `limitsOf`); here each number that is due is looked for in the bytes.
-use Prim.Native.Nat.{ℕ, _+_}
+-- THE FIRST FAULT: document 01's rules of a payroll record at its place, in one order, of which a refusal is the first that is broken.
+use Prim.Native.Nat.{ℕ}
 use Prim.Native.String.{String}
 use mathlib.Core.Path.{_≡_}
 use mathlib.Core.Logic.{_↔_}
@@ -8,88 +7,54 @@ use mathlib.Core.List.{List, [], _∷_, _++_}
 use mathlib.Core.Bool.{Bool, true, false, not, _||_}
 use lib.ListN.{length}
 use lib.Dec.{eqb}
-use Rattle.refusal.specs.declared.Cause.{Cause}
-use Rattle.refusal.specs.declared.Cause.the-variants.{
-  KindUnknown,
-  WrongWidth,
-  ByteNotAllowed,
-  ValueNotAllowed,
-  BytesAfterTheEnd,
-}
+use Rattle.refusal.specs.declared.Cause.the-variants.{KindUnknown, WrongWidth, BytesAfterTheEnd}
 use Rattle.refusal.specs.declared.Refusal.{Refusal}
 use Rattle.refusal.specs.Rules.{Rule, ruleAt, allHold, FirstBroken}
-use Rattle.text.specs.declared.alphabet.Alphabet.the-variants.{Digits}
-use Rattle.text.specs.Alphabet.{plainAscii, holdsOnly}
-use Rattle.text.specs.Literal.{ascii, sameBytes, oneByteOf}
+use Rattle.text.specs.Literal.{ascii, sameBytes}
 use Rattle.text.specs.Part.{positions}
-use Rattle.calendar.specs.Day.{isDay, turned}
 use Rattle.payroll_record.specs.declared.kind.Kind.{Kind}
 use Rattle.payroll_record.specs.declared.kind.Kind.the-variants.{FileHeader, BatchHeader, SegmentA, SegmentB, SegmentZ, BatchTrailer, FileTrailer}
 use Rattle.payroll_record.specs.declared.kind.KindFound.{KindFound}
 use Rattle.payroll_record.specs.declared.kind.KindFound.the-variants.{Known, UnknownKind, UnknownSegment}
 use Rattle.payroll_record.specs.Kind.{kindOf}
+use Rattle.payroll_record.specs.Front.{frontRules}
+use Rattle.payroll_record.specs.FileHeader.{headerRules}
+use Rattle.payroll_record.specs.Detail.{paymentRules}
+use Rattle.payroll_record.specs.FileTrailer.{trailerFrontRules}
 use Rattle.payroll_record.specs.Reading.{readingOf}
 use Rattle.payroll_run.specs.declared.stage.Stage.{Stage}
 use Rattle.payroll_run.specs.declared.stage.Stage.the-variants.{Start, BetweenBatches, InBatch, BehindA, BehindB, Ended, Refused}
 use Rattle.payroll_run.specs.declared.running.Running.{Running}
 use Rattle.payroll_run.specs.State.{nextNumber}
-use Rattle.payroll_step.specs.Due.{placeRule, Due, dueOf, limitsOf}
+use Rattle.payroll_step.specs.Due.{dueOf, limitsOf}
+use Rattle.payroll_step.specs.Rules.{numbersIn, placedRules}
 use Rattle.payroll_step.specs.Step.{tookOf}
-use Rattle.payroll_kept.specs.Fields.{numberAt}
 
--- "then 7 for any byte outside 32 to 126 (column of that byte)", from a column on
-unfoldable pub byteRules : ℕ → List ℕ → List Rule
-byteRules column [] = []
-byteRules column (b ∷ s) = ruleAt ByteNotAllowed column (plainAscii b) ∷ byteRules (column + 1) s
-
--- "The fields below are digits (7)"
-abbrev pub digitsRule : ℕ → ℕ → List ℕ → Rule
-digitsRule first last r = ruleAt ByteNotAllowed first (holdsOnly Digits (positions first last r))
-
--- a field that should hold a number
-abbrev pub numberRules : Cause → ℕ → ℕ → ℕ → List ℕ → List Rule
-numberRules cause first last n r = digitsRule first last r ∷ ruleAt cause first (eqb (numberAt first last r) n) ∷ []
-
--- "Dates are DDMMAAAA, in the card file's range"
-abbrev pub dayRules : ℕ → ℕ → List ℕ → List Rule
-dayRules first last r = digitsRule first last r ∷ ruleAt ValueNotAllowed first (isDay (turned (numberAt first last r))) ∷ []
-
--- "143 is 1 or 2"
-abbrev pub codeRules : List ℕ → List Rule
-codeRules r = digitsRule 143 143 r ∷ ruleAt ValueNotAllowed 143 (oneByteOf (ascii "12") (positions 143 143 r)) ∷ []
-
--- each number that is due, in its place
-unfoldable pub dueInBytes : List Due → List ℕ → List Rule
-dueInBytes [] r = []
-dueInBytes (d ∷ ds) r = numberRules (d .cause) (d .first) (d .last) (d .number) r ++ dueInBytes ds r
-
--- what the record alone decides in front of them: batch "0000 in the header and 9999 in the file trailer (8)"; "Header: 143 is 1 or 2; date 144-151"
+-- what the record alone decides in front of the numbers that are due: "7 for any byte outside 32 to 126 (column of that byte)", bank, and of the header and the
+-- file trailer the batch number, 143 and the date
 abbrev pub inFrontOfDue : Kind → List ℕ → List Rule
-inFrontOfDue FileHeader r = numberRules ValueNotAllowed 4 7 0 r ++ (codeRules r ++ dayRules 144 151 r)
-inFrontOfDue BatchHeader r = []
-inFrontOfDue SegmentA r = []
-inFrontOfDue SegmentB r = []
-inFrontOfDue SegmentZ r = []
-inFrontOfDue BatchTrailer r = []
-inFrontOfDue FileTrailer r = numberRules ValueNotAllowed 4 7 9999 r
+inFrontOfDue FileHeader r = headerRules r
+inFrontOfDue BatchHeader r = frontRules r
+inFrontOfDue SegmentA r = frontRules r
+inFrontOfDue SegmentB r = frontRules r
+inFrontOfDue SegmentZ r = frontRules r
+inFrontOfDue BatchTrailer r = frontRules r
+inFrontOfDue FileTrailer r = trailerFrontRules r
 
 -- and behind them: "Segment A: date 94-101; amount 120-134"
 abbrev pub behindDue : Kind → List ℕ → List Rule
 behindDue FileHeader r = []
 behindDue BatchHeader r = []
-behindDue SegmentA r = dayRules 94 101 r ++ (digitsRule 120 134 r ∷ [])
+behindDue SegmentA r = paymentRules r
 behindDue SegmentB r = []
 behindDue SegmentZ r = []
 behindDue BatchTrailer r = []
 behindDue FileTrailer r = []
 
--- "then its fields", by position: what each kind has behind "Bank 1-3"
-abbrev pub fieldRules : Kind → Running → List ℕ → List Rule
-fieldRules kind st r = inFrontOfDue kind r ++ (dueInBytes (dueOf kind st) r ++ (limitsOf kind st ++ behindDue kind r))
-
--- of a record of a kind: 5, then any byte outside 32 to 126, then bank and fields
+-- of a record of a kind: the list, with the rules that look at the record alone themselves
 abbrev pub rulesAs : KindFound → Running → List ℕ → List Rule
-rulesAs (Known kind) st r = placeRule st kind ∷ (byteRules 1 r ++ (numberRules ValueNotAllowed 1 3 422 r ++ fieldRules kind st r))
+rulesAs (Known kind) st r =
+    placedRules st kind (inFrontOfDue kind r) (dueOf kind st) (numbersIn (dueOf kind st) r) (limitsOf kind st ++ behindDue kind r)
 rulesAs UnknownKind st r = []
 rulesAs UnknownSegment st r = []
 

@@ -1,4 +1,5 @@
 -- What running judges of a record that was read: the faults that reading found, and the numbers that it read where others are due.
+use Prim.Native.Nat.{ℕ}
 use mathlib.Core.List.{List, [], _∷_, _++_}
 use mathlib.Core.Bool.{false}
 use Rattle.refusal.specs.declared.Cause.the-variants.{KindUnknown, WrongWidth}
@@ -19,7 +20,7 @@ use Rattle.payroll_record.specs.declared.reading.Reading.the-variants.{
   BatchTrailer as batchTrailer,
   FileTrailer as fileTrailer,
 }
-use Rattle.payroll_record.specs.Field.{numberRules}
+use Rattle.payroll_record.specs.Field.{field, numberIn, numberRules}
 use Rattle.payroll_run.specs.declared.running.Running.{Running}
 use Rattle.payroll_step.specs.Due.{placeRule, Due, dueInDetail, dueOf, limitsOf}
 
@@ -34,9 +35,18 @@ dueRules [] numbers = []
 dueRules (d ∷ ds) [] = []
 dueRules (d ∷ ds) (n ∷ ns) = numberRules (d .cause) (d .first) n (d .number) ++ dueRules ds ns
 
--- the rules of a record of a kind: 5, what was found in front, the numbers that are due, and what is behind them
+-- the numbers that a record has in the places where others are due
+abbrev pub numbersIn : List Due → List ℕ → List Number
+numbersIn [] r = []
+numbersIn (d ∷ ds) r = numberIn (field (d .first) (d .last)) r ∷ numbersIn ds r
+
+-- THE LIST, of a record of a kind: 5, the rules that it has in front, the numbers that are due, and what is behind them
+abbrev pub placedRules : Running → Kind → List Rule → List Due → List Number → List Rule → List Rule
+placedRules st kind front dues numbers behind = placeRule st kind ∷ (front ++ (dueRules dues numbers ++ behind))
+
+-- that list as reading answers it: of the rules in front the first that is broken, if any
 abbrev pub judgedRules : Running → Kind → Fault → List Due → List Number → List Rule → List Rule
-judgedRules st kind front dues numbers behind = placeRule st kind ∷ (foundRules front ++ (dueRules dues numbers ++ behind))
+judgedRules st kind front dues numbers behind = placedRules st kind (foundRules front) dues numbers behind
 
 -- the rules of a reading at its place, in order
 unfoldable pub rulesOf : Running → Reading → List Rule

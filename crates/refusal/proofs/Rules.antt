@@ -1,7 +1,7 @@
 -- Laws of "the first fault" among rules: of rules in a row; that there is none exactly where all hold; and which rule gives it.
 -- By induction on the rules, with a law for one rule before others.
 use Prim.Native.Nat.{ℕ}
-use mathlib.Core.Path.{_≡_, refl, sym, ap, _∙_}
+use mathlib.Core.Path.{_≡_, refl, sym, ap, ap₂, _∙_}
 use mathlib.Core.List.{List, [], _∷_, _++_}
 use mathlib.Core.Bool.{Bool, true, false, and-eq-true-iff}
 use Rattle.refusal.specs.declared.Cause.{Cause}
@@ -20,6 +20,10 @@ pub in-a-row : (a b : List Rule) → firstBroken (a ++ b) ≡ earlierOf (firstBr
 unfolding firstBroken faultOf
 in-a-row [] b = refl
 in-a-row (r ∷ a) b = ap (earlierOf (faultOf r)) (in-a-row a b) ∙ sym (associative (faultOf r) (firstBroken a) (firstBroken b))
+
+-- rows with the same first fault, one behind the other
+pub same-row : (a b c d : List Rule) → firstBroken a ≡ firstBroken b → firstBroken c ≡ firstBroken d → firstBroken (a ++ c) ≡ firstBroken (b ++ d)
+same-row a b c d p q = in-a-row a c ∙ ap₂ earlierOf p q ∙ sym (in-a-row b d)
 
 -- no fault of a rule before others: it holds, and they have none
 none-at : (c : Cause) (k : ℕ) (h : Bool) {f : Fault} → earlierOf (ruleOf c k h) f ≡ Nothing → (h ≡ true) × (f ≡ Nothing)
