@@ -2,21 +2,11 @@
 use Prim.Native.Nat.{ℕ, suc}
 use mathlib.Core.Path.{_≡_, refl}
 use mathlib.Core.List.{List, [], _∷_, _++_, map}
-use mathlib.Core.Bool.{Bool, true, false, _&&_}
+use mathlib.Core.Bool.{true}
 use Rattle.text.proofs.Alphabets.{both}
 use Rattle.lines.specs.Lines.{cut, joined, noLf, allNoLf, withCr}
-use Rattle.lines.proofs.Cuts.{cut-joined}
+use Rattle.lines.proofs.Cuts.{row-clear, cut-joined}
 use Rattle.card_kept.specs.Kept.{Batch, File, batchRecords, batchesRecords, recordsOf, SalesKept, BatchKept, BatchesKept, FileKept}
-
--- records in a row
-row-clear : (rs ss : List (List ℕ)) → allNoLf rs ≡ true → allNoLf ss ≡ true → allNoLf (rs ++ ss) ≡ true
-unfolding allNoLf
-row-clear [] ss a b = b
-row-clear (r ∷ rs) ss a b = grouped (noLf r) (allNoLf rs) a (λ h. row-clear rs ss h b)
-  where
-    grouped : (p q : Bool) {s : Bool} → p && q ≡ true → (q ≡ true → s ≡ true) → p && s ≡ true
-    grouped true q a f = f a
-    grouped false q a f = a
 
 module _ (e : ℕ) where
   sales-clear : (n : ℕ) (rs : List (List ℕ)) → SalesKept e n rs → allNoLf rs ≡ true

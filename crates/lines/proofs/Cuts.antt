@@ -82,6 +82,16 @@ unfolding noLf
 with-cr-clear [] = refl
 with-cr-clear (b ∷ r) = ap (λ q. cond (eqb b lf) false q) (with-cr-clear r)
 
+-- records without LF in a row
+pub row-clear : (rs ss : List (List ℕ)) → allNoLf rs ≡ true → allNoLf ss ≡ true → allNoLf (rs ++ ss) ≡ true
+unfolding allNoLf
+row-clear [] ss a b = b
+row-clear (r ∷ rs) ss a b = grouped (noLf r) (allNoLf rs) a (λ h. row-clear rs ss h b)
+  where
+    grouped : (p q : Bool) {s : Bool} → p && q ≡ true → (q ≡ true → s ≡ true) → p && s ≡ true
+    grouped true q a f = f a
+    grouped false q a f = a
+
 all-with-cr-clear : (rs : List (List ℕ)) → allNoLf (map withCr rs) ≡ allNoLf rs
 unfolding allNoLf
 all-with-cr-clear [] = refl

@@ -12,7 +12,7 @@ use Rattle.text.specs.declared.alphabet.Alphabet.the-variants.{PlainAscii}
 use Rattle.text.specs.Alphabet.{allowed, holdsOnly}
 use Rattle.text.proofs.Alphabets.{both, both-left, both-right}
 use Rattle.lines.specs.Lines.{lf, inFront, cut, joined, noLf, allNoLf, withCr}
-use Rattle.lines.proofs.Cuts.{cut-joined-then}
+use Rattle.lines.proofs.Cuts.{row-clear, cut-joined-then}
 use Rattle.payroll_kept.specs.Kept.{
   Payment,
   Batch,
@@ -40,12 +40,6 @@ plain-line (b ∷ r) e =
     let low = leb-true 32 b (both-left (leb 32 b) (leb b 126) here) in
     let other : b ≡ lf → ⊥ = λ q. omega arith in
     rw (ne-eqb b lf other) (plain-line r (both-right (leb 32 b && leb b 126) (holdsOnly PlainAscii r) e))
-
--- records in a row
-row-clear : (rs ss : List (List ℕ)) → allNoLf rs ≡ true → allNoLf ss ≡ true → allNoLf (rs ++ ss) ≡ true
-unfolding allNoLf
-row-clear [] ss a b = b
-row-clear (r ∷ rs) ss a b = both (both-left (noLf r) (allNoLf rs) a) (row-clear rs ss (both-right (noLf r) (allNoLf rs) a) b)
 
 -- one record, and one that may be there
 one-clear : (r : List ℕ) → holdsOnly PlainAscii r ≡ true → allNoLf (r ∷ []) ≡ true
