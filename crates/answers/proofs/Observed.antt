@@ -1,5 +1,5 @@
 -- A number read off each kind of answer, by which two of them are told apart.
-use Prim.Native.Nat.{ℕ, _+_, _*_}
+use Prim.Native.Nat.{ℕ, _+_}
 use Rattle.refusal.specs.RefusalList.{numberOf}
 use Rattle.refusal.specs.declared.Fault.{Fault}
 use Rattle.refusal.specs.declared.Fault.the-variants.{Nothing, At as faultAt}

@@ -1,7 +1,6 @@
 -- The contracts of the programs' libraries rule wrong answers out: an answer is that of some bytes, and the laws of every answer hold of it.
 use Prim.Native.Nat.{ℕ, zero, suc}
 use mathlib.Core.Path.{_≡_, refl, sym, _∙_, ap}
-use mathlib.Core.Bool.{true}
 use mathlib.Core.List.{List, []}
 use native.Mathlib.Omega.{arith}
 use lib.IntN.{ℤ}
@@ -56,7 +55,7 @@ use Rattle.answers.specs.CardRun.{oneSale, accepted}
 use Rattle.answers.specs.Programs.{Programs, madeUp}
 use Rattle.answers.specs.Samples.{cardFile, payrollFile}
 use Rattle.answers.proofs.Told.{equal, told, bit}
-use Rattle.answers.proofs.Observed.{answerRead, editionRead, outcomeRead}
+use Rattle.answers.proofs.Observed.{editionRead, outcomeRead}
 
 -- no bytes of a text without a digit state an edition
 stated : (n : ℕ) → editionOf (take n (ascii ".")) ≡ NoNumber

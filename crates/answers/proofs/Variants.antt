@@ -68,7 +68,7 @@ use Rattle.demands.specs.Demands.{Demands}
 use Rattle.demands.specs.Examples.{asWritten, allAsWritten}
 use Rattle.demands.specs.Feeding.{called}
 use Rattle.demands.specs.HiddenDigits.{hiddenAt, hiddenInPieces}
-use Rattle.answers.specs.CardRun.{state, refusal, noSale, oneSale}
+use Rattle.answers.specs.CardRun.{state, refusal, oneSale}
 use Rattle.answers.specs.DaySheet.{sheetOf}
 use Rattle.answers.specs.Samples.{at, sale, cardFile, cardFileOf, fileHeader, batchHeader, payment, batchTrailer, fileTrailer, payrollFile}
 use Rattle.answers.specs.Variants.{Variants}

@@ -32,7 +32,7 @@ use Rattle.day_sheet.specs.Layout.{bytesOf}
 use Rattle.day_sheet.specs.Reading.{readOf}
 use Rattle.day_sheet.specs.Answer.{readRow}
 use Rattle.demands.specs.Demands.{Demands}
-use Rattle.demands.specs.Examples.{Example, agrees, allAsWritten}
+use Rattle.demands.specs.Examples.{agrees, allAsWritten}
 use Rattle.demands.specs.Feeding.{FedAsWhole, RefusedForGood, BadEdition, AfterAcceptedClose, OnePastTheLast, afterTheEnd}
 use Rattle.demands.specs.HiddenDigits.{hiddenIn}
 use Rattle.demands.specs.HiddenDigitsExample.{oneFile, otherFile}

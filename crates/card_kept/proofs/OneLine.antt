@@ -1,10 +1,10 @@
 -- The records of a file that keeps the rules hold no LF, so the file is cut into them.
 use Prim.Native.Nat.{ℕ, suc}
 use mathlib.Core.Path.{_≡_, refl}
-use mathlib.Core.List.{List, [], _∷_, _++_, map}
+use mathlib.Core.List.{List, [], _∷_, map}
 use mathlib.Core.Bool.{true}
 use Rattle.text.proofs.Alphabets.{both}
-use Rattle.lines.specs.Lines.{cut, joined, noLf, allNoLf, withCr}
+use Rattle.lines.specs.Lines.{cut, joined, allNoLf, withCr}
 use Rattle.lines.proofs.Cuts.{row-clear, cut-joined}
 use Rattle.card_kept.specs.Kept.{Batch, File, batchRecords, batchesRecords, recordsOf, SalesKept, BatchKept, BatchesKept, FileKept}
 

@@ -4,11 +4,9 @@ use mathlib.Core.Path.{_≡_, refl, sym, _∙_, ap}
 use mathlib.Core.List.{List, [], _∷_}
 use mathlib.Core.Bool.{Bool, true, false, cond, false≢true}
 use native.Mathlib.Omega.{arith}
-use Rattle.refusal.specs.declared.Refusal.{Refusal}
 use Rattle.lines.specs.Lines.{endsInCr, withoutLast, withCr}
 use Rattle.lines.proofs.Ends.{record-and-cr}
 use Rattle.card_record.specs.declared.kind.Kind.{Kind}
-use Rattle.card_record.specs.Reading.{readingOf}
 use Rattle.card_run.specs.declared.stage.Stage.{Stage}
 use Rattle.card_run.specs.declared.stage.Stage.the-variants.{Start, BetweenBatches, InBatch, Ended, Closed, Refused}
 use Rattle.card_run.specs.declared.running.Running.{Running}
@@ -16,10 +14,9 @@ use Rattle.card_run.specs.declared.answer.Accepted.{Accepted}
 use Rattle.card_run.specs.declared.answer.CardAnswer.the-variants.{Accepted as accepted, Refused as refused}
 use Rattle.card_run.specs.Stage.{placed}
 use Rattle.card_run.specs.Running.{closedAt, closedOf, lateAt}
-use Rattle.card_step.specs.Step.{tookAt}
 use Rattle.card_file.specs.Feeding.{fedOf}
 use Rattle.card_run.specs.Answer.{answerAt, answerOf}
-use Rattle.card_file.specs.CardFile.{unendedAt, unendedOf, lineOf, linesOf, endOf}
+use Rattle.card_file.specs.CardFile.{unendedAt, unendedOf, linesOf, endOf}
 use Rattle.card_kept.proofs.Stays as stays
 use Rattle.card_kept.proofs.Steps.{Alive, went}
 

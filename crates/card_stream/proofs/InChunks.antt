@@ -1,12 +1,12 @@
 -- A file in chunks is the file read whole. A stream is a run over pieces (`chunks`), and neither taking a line nor the end looks further into what
 -- is held than what is held of it.
 use Prim.Native.Nat.{ℕ, _<_}
-use mathlib.Core.Path.{_≡_, refl, sym, _∙_, ap}
+use mathlib.Core.Path.{_≡_, refl, _∙_, ap}
 use mathlib.Core.List.{List, [], _∷_, foldl}
 use native.Mathlib.Omega.{arith}
 use lib.ListN.{length}
 use Rattle.lines.specs.Lines.{cut}
-use Rattle.chunks.specs.Unfinished.{clippedWith, clipped, oneMore}
+use Rattle.chunks.specs.Unfinished.{clippedWith, oneMore}
 use Rattle.chunks.specs.Chunks.{Run, startOf, ranOver, joinedChunks}
 use Rattle.chunks.proofs.Clipped.{clipped-some}
 use Rattle.chunks.proofs.Held.{held-back}

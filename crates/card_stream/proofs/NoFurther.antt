@@ -1,10 +1,10 @@
 -- Taking a line looks no further into it than what is held: its last byte, and 241 bytes in front, which are more than any kind is wide.
 use Prim.Native.Nat.{ℕ, _<_}
-use mathlib.Core.Path.{_≡_, refl, sym, _∙_, ap, ap₂}
+use mathlib.Core.Path.{_≡_, refl, _∙_, ap, ap₂}
 use mathlib.Core.List.{List}
 use mathlib.Core.Bool.{Bool, true, false, cond}
 use native.Mathlib.Omega.{arith}
-use lib.ListN.{length, take, drop, length-take}
+use lib.ListN.{length, take, length-take}
 use lib.Seq.{take-all, take-take}
 use lib.Dec.{leb}
 use borrow.Author.Tests.{leb-true, leb-false, ne-eqb}
@@ -12,7 +12,6 @@ use Rattle.refusal.specs.declared.Cause.the-variants.{WrongWidth}
 use Rattle.refusal.specs.declared.Fault.the-variants.{At}
 use Rattle.refusal.specs.Rules.{firstBroken}
 use Rattle.lines.specs.Lines.{endsInCr, withoutLast}
-use Rattle.chunks.specs.Unfinished.{clipped}
 use Rattle.chunks.proofs.Clipped.{clipped-ends, clipped-record}
 use Rattle.chunks.proofs.Streams.{LooksNoFurther}
 use Rattle.card_content.specs.Field.{recordRules}
@@ -22,7 +21,6 @@ use Rattle.card_record.specs.declared.kind.KindFound.{KindFound}
 use Rattle.card_record.specs.declared.kind.KindFound.the-variants.{Known, Unknown}
 use Rattle.card_record.specs.Kind.{kindOf, kindNamed}
 use Rattle.card_record.specs.Reading.{widthOf, kindRules, readFound, readingOf, judgedAs}
-use Rattle.card_run.specs.declared.running.Running.{Running}
 use Rattle.card_step.specs.Step.{tookOf}
 use Rattle.card_file.specs.Feeding.{fedOf}
 use Rattle.card_file.specs.CardFile.{lineOf, unendedOf}

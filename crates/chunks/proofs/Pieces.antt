@@ -1,7 +1,7 @@
 -- What the next LF of a chunk makes of a run: the search finds it, finds none, or has nothing to search. One set of laws for every step.
 use Prim.Native.Nat.{ℕ, _+_, _-_, _≤_}
-use mathlib.Core.Path.{_≡_, refl, sym, _∙_, ap}
-use mathlib.Core.List.{List, [], _∷_, _++_}
+use mathlib.Core.Path.{_≡_, sym, _∙_, ap}
+use mathlib.Core.List.{List, [], _++_}
 use native.Mathlib.Omega.{arith}
 use lib.ListN.{take, drop, length, drop-of-length-le}
 use Rattle.lines.specs.declared.Found.the-variants.{At, Nowhere}

@@ -2,7 +2,7 @@
 -- After some of them: a run that was refused stays so, and any other is refused only at a later record, since a run counts its records.
 use Prim.Native.Nat.{ℕ, suc, _+_, _≤_, _<_}
 use mathlib.Core.Path.{_≡_, refl, sym, _∙_, ap, subst}
-use mathlib.Core.List.{List, [], _∷_, _++_, map}
+use mathlib.Core.List.{List, [], _∷_}
 use mathlib.Core.Bool.{Bool, true, false, cond}
 use native.Mathlib.Omega.{arith}
 use lib.ListN.{length}
@@ -25,7 +25,7 @@ use Rattle.card_run.specs.Running.{openOf, nextNumber, closedAt, closedOf, late
 use Rattle.card_step.specs.Step.{tookAt}
 use Rattle.card_file.specs.Feeding.{fedOf, fedAll}
 use Rattle.card_run.specs.Answer.{answerAt, answerOf, goingOnRow, refusedRow, cardFileRow}
-use Rattle.card_file.specs.CardFile.{lineOf, linesOf, endOf, ranOf, checkOf}
+use Rattle.card_file.specs.CardFile.{endOf, ranOf, checkOf}
 use Rattle.demands.specs.Feeding.{upTo, FedAsWhole, RefusedForGood, BadEdition, Call, feed, close, called, afterTheEnd, AfterAcceptedClose, OnePastTheLast}
 use Rattle.card_kept.proofs.Stays as stays
 use Rattle.card_kept.proofs.Batches.{fed-row, lines-are}

@@ -10,7 +10,6 @@ use Rattle.chunks.specs.Chunks.{joinedChunks}
 use Rattle.lines.specs.Lines.{cut}
 use Rattle.lines.proofs.Cuts.{cut-is-cut}
 use Rattle.card_mask.specs.Masked.{maskedFile, finishedIn}
-use Rattle.card_mask.specs.InChunks.{nothingCopied, copiedOver}
 use Rattle.card_mask.proofs.InChunks.{copied-as-whole, lines-length}
 use Rattle.card_mask.proofs.Finished.{finished-within}
 use Rattle.mask_cases.specs.Copying.{between, MasksBetween}

@@ -25,7 +25,7 @@ use Rattle.payroll_record.specs.Reading.{readAs, readFound, readingOf}
 use Rattle.payroll_run.specs.declared.stage.Stage.{Stage}
 use Rattle.payroll_run.specs.declared.stage.Stage.the-variants.{Start, BetweenBatches, InBatch, BehindA, BehindB, Ended, Refused}
 use Rattle.payroll_run.specs.declared.running.Running.{Running}
-use Rattle.payroll_step.specs.Due.{placeRule, Due, dueInDetail, dueOf, limitsOf}
+use Rattle.payroll_step.specs.Due.{placeRule, Due, dueInDetail, dueOf}
 use Rattle.payroll_step.specs.Rules.{foundRules, dueRules, placedRules, judgedRules, rulesOf}
 use Rattle.payroll_step.specs.Step.{behindOrRefused, tookAt, tookOf}
 use Rattle.payroll_step.proofs.Found.{found}

@@ -1,5 +1,4 @@
 -- A row of a refusal is of that refusal alone, and no refusal has the row of none: a number names one cause, and is not 0.
-use Prim.Native.Nat.{ℕ}
 use mathlib.Core.Path.{_≡_, ap}
 use native.Mathlib.Omega.{arith}
 use Rattle.refusal.specs.declared.Refusal.{Refusal}

@@ -1,5 +1,4 @@
 -- `demands::demands_hold` meets its contract: the theorems, gathered.
-use mathlib.Core.Path.{_∙_}
 use Rattle.card_run.specs.Answer.{answerOf, cardFileRow}
 use Rattle.card_run.specs.declared.answer.CardAnswer.the-variants.{Refused}
 use Rattle.card_run.proofs.FileRows.{same-answer, refusal-told, is-accepted}

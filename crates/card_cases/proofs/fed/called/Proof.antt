@@ -1,5 +1,4 @@
 -- `card_cases::fed::called` meets its contract: the length picks the call.
-use mathlib.Core.Path.{sym, _∙_}
 use borrow.Author.Needs.{needs}
 use borrow.Author.Tests.{eq-eqb, ne-eqb}
 use Rattle.card_cases.proofs.fed.called.Statement.{statement}

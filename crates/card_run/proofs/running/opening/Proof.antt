@@ -1,8 +1,5 @@
 -- `card_run::running::opening` meets its contract: whether the edition is known decides.
-use mathlib.Core.Path.{_≡_, sym, _∙_, ap}
-use mathlib.Core.Bool.{cond}
-use borrow.Author.Needs.{needs}
-use Rattle.card_run.specs.declared.stage.Stage.the-variants.{Start, Refused}
+use mathlib.Core.Path.{sym, _∙_}
 use Rattle.card_run.proofs.running.opening.Statement.{statement}
 use Rattle.card_run.proofs.running.opening.Tie as tie
 

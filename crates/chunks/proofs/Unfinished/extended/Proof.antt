@@ -1,7 +1,7 @@
 -- `chunks::Unfinished::extended` meets its contract. The invariant: what is held is followed by zeros, and with the bytes still to come it is
 -- what the start is with all of them.
 use Prim.Native.Nat.{_+_, _≤_, _-_}
-use mathlib.Core.Path.{_≡_, refl, sym, _∙_, ap}
+use mathlib.Core.Path.{_≡_, refl, _∙_, ap}
 use native.Mathlib.Omega.{arith}
 use borrow.Author.Needs.{needs}
 use denote.Ref.{now}

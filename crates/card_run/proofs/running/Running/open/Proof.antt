@@ -1,6 +1,4 @@
 -- `card_run::running::Running::open` meets its contract: each part is the promised one.
-use mathlib.Core.Path.{_≡_}
-use Rattle.card_run.specs.Running.{noNumbers}
 use Rattle.card_run.proofs.running.Running.open.Statement.{statement}
 use Rattle.card_run.proofs.running.Running.open.Tie as tie
 
