@@ -56,7 +56,7 @@ use Rattle.payroll_file.specs.PayrollFile.{
   cutShortOf,
   endAt,
 }
-use Rattle.payroll_file.specs.Answer.{payrollRow}
+use Rattle.payroll_file.specs.Answer.{payrollRow, stateRow}
 use Rattle.payroll_run.specs.declared.stage.Stage.the-variants.{Refused as payrollRefused}
 use Rattle.payroll_run.specs.State.{opened, moved}
 use Rattle.day_sheet.specs.Number.{inBase, valueIn}
@@ -79,7 +79,7 @@ not-first : (n : ℕ) → 0 ≡ suc n → ⊥
 not-first n e = omega arith
 
 pub variants : (d : Demands) → Variants d
-unfolding known firstBroken allowed holdsOnly valueFrom sameBytes hasByte oneByteOf daysIn isDay isTime whenRules wellFormed leadingZeros hiddenPlaces starWhere inFront cut joined endsInCr withoutLast rejoined inSet contentRules tableRules recordRules joinedRules cardPartFound kindNamed rightReading judgedAs readFound answerAt cardFileRow joinedAt rulesOf behind behindOrRefused tookAt closedAt unendedAt linesOf endOf lateAt fedAll answerWithRoom maskedAt maskedInto clippedWith heldBefore joinedChunks behindEnd withHeld firstStray numberRules strayAt segmentNamed payrollKindNamed readAs payrollReadFound foundRules dueRules payrollRunRules behindDetailAs payrollBehind payrollBehindOrRefused payrollTookAt payrollUnendedAt payrollLinesOf endedOf cutShortOf endAt payrollRow inBase valueIn inPlaces fromPlaces totalsAllowed sheetAllowed readNumbers readOf readRow asWritten allAsWritten called hiddenAt hiddenInPieces
+unfolding known firstBroken allowed holdsOnly valueFrom sameBytes hasByte oneByteOf daysIn isDay isTime whenRules wellFormed leadingZeros hiddenPlaces starWhere inFront cut joined endsInCr withoutLast rejoined inSet contentRules tableRules recordRules joinedRules cardPartFound kindNamed rightReading judgedAs readFound answerAt cardFileRow joinedAt rulesOf behind behindOrRefused tookAt closedAt unendedAt linesOf endOf lateAt fedAll answerWithRoom maskedAt maskedInto clippedWith heldBefore joinedChunks behindEnd withHeld firstStray numberRules strayAt segmentNamed payrollKindNamed readAs payrollReadFound foundRules dueRules payrollRunRules behindDetailAs payrollBehind payrollBehindOrRefused payrollTookAt payrollUnendedAt payrollLinesOf endedOf cutShortOf endAt payrollRow stateRow inBase valueIn inPlaces fromPlaces totalsAllowed sheetAllowed readNumbers readOf readRow asWritten allAsWritten called hiddenAt hiddenInPieces
 variants d =
     record {
       record-judged = λ wrong.

@@ -13,6 +13,7 @@ use Rattle.card_run.specs.Answer.{answerOf, refusedRow, cardFileRow}
 use Rattle.card_file.specs.Feeding.{fedAll}
 use Rattle.card_kept.specs.FirstFault.{FirstFaultOfRecord, EditionFirst, FirstFaultDecides}
 use Rattle.payroll_run.specs.declared.running.Running.{Running as PayrollRunning}
+use Rattle.payroll_file.specs.Answer.{stateRow}
 use Rattle.payroll_kept.specs.FirstFault as payroll-record
 use Rattle.payroll_kept.specs.FirstFaultOfFile as payroll-file
 use Rattle.demands.specs.Examples.{examples, allAsWritten}
@@ -33,7 +34,7 @@ pub record Demands : Type 0 where
   -- and under one that is
   pub file-judged : (edition : ℕ) → known edition ≡ true → (file : List ℕ) → FirstFaultDecides edition file
   -- a payroll record taken by a state that is not refused, and a payroll file
-  pub payroll-record-judged : (st : PayrollRunning) (r : List ℕ) → payroll-record.Going st → payroll-record.FirstFaultOfRecord st r
+  pub payroll-record-judged : (st : PayrollRunning) (r : List ℕ) → stateRow (st .stage) .refusal ≡ noRefusal → payroll-record.FirstFaultOfRecord st r
   pub payroll-file-judged : (file : List ℕ) → payroll-file.FirstFaultDecides file
   -- what is lent
   pub refused-leaves-alone : RefusedLeavesAlone

@@ -55,7 +55,7 @@ pub record AsTheWhole : Type 0 where
 pub record AfterTheEnd : Type 0 where
   -- the end decides: the file is accepted or refused, and does not go on
   pub card-decided : (s : CardStream) → cardFileRow (card.answerOf (card.endedOf s)) ≡ goingOnRow → ⊥
-  pub payroll-decided : (s : PayrollStream) → payroll.progressRow (payroll.answerOf (payroll.endedOf s)) ≡ payroll.goingOnRow → ⊥
+  pub payroll-decided : (s : PayrollStream) → payroll.progressRow (payroll.answerOf (payroll.endedOf s)) ≡ paper.goingOnRow → ⊥
   -- a further end changes nothing
   pub card-ended-again : (s : CardStream) → cardFileRow (card.answerOf (card.endedOf (card.endedOf s))) ≡ cardFileRow (card.answerOf (card.endedOf s))
   pub payroll-ended-again : (s : PayrollStream) → payroll.endedOf (payroll.endedOf s) ≡ payroll.endedOf s

@@ -29,7 +29,8 @@ use Rattle.payroll_step.specs.Due.{placeRule, Due, dueInDetail, dueOf}
 use Rattle.payroll_step.specs.Rules.{foundRules, dueRules, placedRules, judgedRules, rulesOf}
 use Rattle.payroll_step.specs.Step.{behindOrRefused, tookAt, tookOf}
 use Rattle.payroll_step.proofs.Found.{found}
-use Rattle.payroll_kept.specs.FirstFault.{rulesAs, ended, kindKnown, segmentKnown, rulesFromWidth, recordRules, Going}
+use Rattle.payroll_kept.specs.FirstFault.{rulesAs, ended, kindKnown, segmentKnown, rulesFromWidth, recordRules}
+use Rattle.payroll_kept.proofs.Going.{Going}
 use Rattle.payroll_kept.proofs.Names.{kind-named}
 use Rattle.payroll_kept.proofs.Known.{both-known, no-kind}
 

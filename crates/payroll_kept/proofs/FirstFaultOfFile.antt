@@ -25,7 +25,8 @@ use Rattle.payroll_file.specs.Answer.{payrollRow}
 use Rattle.payroll_file.proofs.FileRows.{same-answer, is-accepted}
 use Rattle.payroll_file.specs.PayrollFile.{unendedOf, lineOf, linesOf, accepted, endOf, checkOf}
 use Rattle.payroll_kept.specs.Accepts.{Accepts}
-use Rattle.payroll_kept.specs.FirstFault.{endRule, Going}
+use Rattle.payroll_kept.specs.FirstFault.{endRule}
+use Rattle.payroll_kept.proofs.Going.{Going}
 use Rattle.payroll_kept.specs.FirstFaultOfFile.{Next, piece, rest, nextRules, piecesHold, FirstFaultOfFile, AllHoldInFile, FirstFaultDecides}
 use Rattle.payroll_kept.proofs.Plain.{cap, behindPlain}
 use Rattle.payroll_kept.proofs.Steps.{fedOf, step, stepped}

@@ -1,3 +1,4 @@
+pub mod Going
 pub mod Names
 pub mod Rules
 pub mod Plain

@@ -22,7 +22,8 @@ use Rattle.payroll_file.specs.declared.answer.PayrollAnswer.the-variants.{Refus
 use Rattle.payroll_run.specs.State.{refusalAt}
 use Rattle.payroll_step.specs.Step.{behindOrRefused}
 use Rattle.payroll_file.specs.PayrollFile.{unendedAt, unendedOf, lineOf, linesOf, accepted, endedOf, cutShortOf, endAt, endOf}
-use Rattle.payroll_kept.specs.FirstFault.{ended, endRule, rulesFromWidth, Going}
+use Rattle.payroll_kept.specs.FirstFault.{ended, endRule, rulesFromWidth}
+use Rattle.payroll_kept.proofs.Going.{Going}
 use Rattle.payroll_kept.specs.FirstFaultOfFile.{Next, piece, rest, nextRules, piecesHold}
 use Rattle.payroll_kept.proofs.Steps.{fedOf}
 use Rattle.payroll_kept.proofs.Refused.{line-same}

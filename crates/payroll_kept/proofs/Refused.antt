@@ -21,7 +21,7 @@ use Rattle.payroll_file.specs.declared.answer.PayrollAnswer.the-variants.{Accep
 use Rattle.payroll_run.specs.Stage.{placed}
 use Rattle.payroll_step.specs.Step.{tookAt}
 use Rattle.payroll_file.specs.PayrollFile.{unendedAt, unendedOf, lineOf, linesOf, endedOf, cutShortOf, endAt, endOf}
-use Rattle.payroll_kept.specs.FirstFault.{Going}
+use Rattle.payroll_kept.proofs.Going.{Going}
 use Rattle.payroll_kept.proofs.Plain.{cap}
 use Rattle.payroll_kept.proofs.Steps.{fedOf, stepped}
 

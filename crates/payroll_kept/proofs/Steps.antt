@@ -25,7 +25,7 @@ use Rattle.payroll_run.specs.declared.running.Running.{Running}
 use Rattle.payroll_run.specs.Stage.{placed}
 use Rattle.payroll_step.specs.Rules.{rulesOf}
 use Rattle.payroll_step.specs.Step.{behindOrRefused, judgedOf, tookAt, tookOf}
-use Rattle.payroll_kept.specs.FirstFault.{Going}
+use Rattle.payroll_kept.proofs.Going.{Going}
 use Rattle.payroll_kept.proofs.Plain.{cap, behindPlain, behind-is}
 use Rattle.payroll_kept.proofs.Next.{Next, is-next, none-broken, amounts}
 

@@ -9,6 +9,7 @@ use lib.ListN.{length}
 use lib.Dec.{eqb}
 use Rattle.refusal.specs.declared.Cause.the-variants.{KindUnknown, WrongWidth, BytesAfterTheEnd}
 use Rattle.refusal.specs.declared.Refusal.{Refusal}
+use Rattle.refusal.specs.Row.{noRefusal}
 use Rattle.refusal.specs.Rules.{Rule, ruleAt, allHold, FirstBroken}
 use Rattle.text.specs.Literal.{ascii, sameBytes}
 use Rattle.text.specs.Part.{positions}
@@ -29,6 +30,7 @@ use Rattle.payroll_run.specs.State.{nextNumber}
 use Rattle.payroll_step.specs.Due.{dueOf, limitsOf}
 use Rattle.payroll_step.specs.Rules.{numbersIn, placedRules}
 use Rattle.payroll_step.specs.Step.{tookOf}
+use Rattle.payroll_file.specs.Answer.{refusedRow, stateRow}
 
 -- what the record alone decides in front of the numbers that are due: "7 for any byte outside 32 to 126 (column of that byte)", bank, and of the header and the
 -- file trailer the batch number, 143 and the date
@@ -96,10 +98,6 @@ endRule st = ruleAt BytesAfterTheEnd 0 (not (ended (st .stage)))
 abbrev pub recordRules : Running → List ℕ → List Rule
 recordRules st r = endRule st ∷ rulesFromWidth st r
 
--- a state that is not refused
-abbrev pub Going : Running → Type 0
-Going st = (refusal : Refusal) → st .stage ≡ Refused refusal → ⊥
-
 -- a refusal at the record that comes next: the first rule that is broken gives its cause and its column
 pub record RefusedBy (st : Running) (rules : List Rule) (refusal : Refusal) : Type 0 where
   pub number : refusal .«record» ≡ nextNumber st
@@ -108,6 +106,6 @@ pub record RefusedBy (st : Running) (rules : List Rule) (refusal : Refusal) : Ty
 -- a record taken by a state that is not refused: "the first fault" decides, and nothing else
 pub record FirstFaultOfRecord (st : Running) (r : List ℕ) : Type 0 where
   -- it is refused exactly where a rule is broken, by the first of them
-  pub is-refused : (refusal : Refusal) → (tookOf st (readingOf r) .stage ≡ Refused refusal) ↔ RefusedBy st (recordRules st r) refusal
+  pub is-refused : (refusal : Refusal) → (stateRow (tookOf st (readingOf r) .stage) ≡ refusedRow refusal) ↔ RefusedBy st (recordRules st r) refusal
   -- "No refusal is given otherwise"
-  pub is-not : Going (tookOf st (readingOf r)) ↔ (allHold (recordRules st r) ≡ true)
+  pub is-not : (stateRow (tookOf st (readingOf r) .stage) .refusal ≡ noRefusal) ↔ (allHold (recordRules st r) ≡ true)

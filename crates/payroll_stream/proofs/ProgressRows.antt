@@ -4,11 +4,11 @@ use mathlib.Core.Bool.{true, true≢false, false≢true}
 use Rattle.refusal.proofs.RefusalRows.{not-none}
 use Rattle.payroll_file.specs.declared.answer.PayrollAnswer.{PayrollAnswer}
 use Rattle.payroll_file.specs.declared.answer.PayrollAnswer.the-variants.{Accepted, Refused}
-use Rattle.payroll_file.specs.Answer.{payrollRow}
+use Rattle.payroll_file.specs.Answer.{goingOnRow, payrollRow}
 use Rattle.payroll_file.proofs.FileRows.{same-answer, is-accepted}
 use Rattle.payroll_stream.specs.declared.Progress.{Progress}
 use Rattle.payroll_stream.specs.declared.Progress.the-variants.{GoingOn, Answered}
-use Rattle.payroll_stream.specs.Stream.{goingOnRow, progressRow}
+use Rattle.payroll_stream.specs.Stream.{progressRow}
 
 not-yet : (a : PayrollAnswer) → payrollRow a ≡ goingOnRow → ⊥
 unfolding payrollRow

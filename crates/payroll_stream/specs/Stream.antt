@@ -1,9 +1,7 @@
 -- A payroll file in chunks: a state, what is held of the record that has not ended, and the answer once there is one.
 use Prim.Native.Nat.{ℕ}
 use mathlib.Core.List.{List, [], _∷_}
-use mathlib.Core.Bool.{false}
 use Rattle.refusal.specs.declared.Cause.the-variants.{BytesAfterTheEnd}
-use Rattle.refusal.specs.Row.{noRefusal}
 use Rattle.lines.specs.Lines.{cut}
 use Rattle.chunks.specs.declared.Unfinished.{Unfinished}
 use Rattle.chunks.specs.Unfinished.{heldBy, holding}
@@ -14,7 +12,7 @@ use Rattle.payroll_run.specs.declared.running.Running.{Running}
 use Rattle.payroll_file.specs.declared.answer.PayrollAnswer.{PayrollAnswer}
 use Rattle.payroll_file.specs.declared.answer.PayrollAnswer.the-variants.{Accepted, Refused as refused}
 use Rattle.payroll_run.specs.State.{opened, refusalAt}
-use Rattle.payroll_file.specs.Answer.{PayrollRow, noNumbers, payrollRow}
+use Rattle.payroll_file.specs.Answer.{PayrollRow, goingOnRow, payrollRow}
 use Rattle.payroll_file.specs.PayrollFile.{lineOf, endOf}
 use Rattle.payroll_stream.specs.declared.Progress.{Progress}
 use Rattle.payroll_stream.specs.declared.Progress.the-variants.{GoingOn, Answered}
@@ -83,9 +81,6 @@ abbrev pub answerOf : Stream → Progress
 answerOf s = answerAt (s .progress) (s .state)
 
 -- the paper's row of the answer so far: none yet, or the answer's
-abbrev pub goingOnRow : PayrollRow
-goingOnRow = record { accepted = false; refusal = noRefusal; numbers = noNumbers }
-
 unfoldable pub progressRow : Progress → PayrollRow
 progressRow GoingOn = goingOnRow
 progressRow (Answered answer) = payrollRow answer

@@ -3,6 +3,7 @@ use Rattle.card_run.specs.Answer.{answerOf, cardFileRow}
 use Rattle.card_run.specs.declared.answer.CardAnswer.the-variants.{Refused}
 use Rattle.card_run.proofs.FileRows.{same-answer, refusal-told, is-accepted}
 use Rattle.card_kept.proofs.FirstFault.{first-fault-of-record, edition-first, first-fault-decides}
+use Rattle.payroll_file.proofs.FileRows.{going-stage}
 use Rattle.payroll_kept.proofs.FirstFault as payroll-record
 use Rattle.payroll_kept.proofs.FirstFaultOfFile as payroll-file
 use Rattle.demands.proofs.Examples.{hold}
@@ -22,7 +23,7 @@ returns c =
       record-judged = λ st r going. first-fault-of-record st r (refusal-told (answerOf st) .1 going);
       edition-first = edition-first;
       file-judged = first-fault-decides;
-      payroll-record-judged = payroll-record.first-fault-of-record;
+      payroll-record-judged = λ st r e. payroll-record.first-fault-of-record st r (going-stage (st .stage) .0 e);
       payroll-file-judged = payroll-file.first-fault-decides;
       refused-leaves-alone = refused-leaves-alone;
       card-rules-kept = card-rules-kept;
