@@ -70,7 +70,8 @@ use Rattle.demands.specs.Feeding.{called}
 use Rattle.demands.specs.HiddenDigits.{hiddenAt, hiddenInPieces}
 use Rattle.answers.specs.CardRun.{state, refusal, oneSale}
 use Rattle.answers.specs.DaySheet.{sheetOf}
-use Rattle.answers.specs.Samples.{at, sale, cardFile, cardFileOf, fileHeader, batchHeader, payment, batchTrailer, fileTrailer, payrollFile}
+use Rattle.demands.specs.ExampleFile.{fileOf}
+use Rattle.answers.specs.Samples.{at, sale, cardFile, fileHeader, batchHeader, payment, batchTrailer, fileTrailer, payrollFile}
 use Rattle.answers.specs.Variants.{Variants}
 use Rattle.answers.proofs.Told.{told, bit}
 
@@ -105,7 +106,7 @@ variants d =
       one-past-the-last = λ wrong. told (λ n. n) refl (wrong 3 (sale ∷ []));
       in-chunks = λ wrong. told (λ row. row .refusal .number) refl (wrong 2 []);
       after-the-end = λ wrong. told (λ row. row .refusal .number) refl (wrong (streamOpen 2) 65 []);
-      hidden-digits-reach-nothing = λ wrong. told (λ row. bit (row .accepted)) refl (wrong 2 cardFile (cardFileOf (at 77 "00000009751" sale)) refl);
+      hidden-digits-reach-nothing = λ wrong. told (λ row. bit (row .accepted)) refl (wrong 2 cardFile (fileOf (at 77 "00000009751" sale)) refl);
       masked-where-hidden = λ wrong. told (λ n. n) refl (sym (d .masked-where-hidden cardFile .at-each 192 (lit< tt)) ∙ wrong cardFile 192);
       twins-that-differ = d .twins-that-differ .differ;
       examples-hold = λ wrong. false≢true wrong;

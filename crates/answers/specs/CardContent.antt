@@ -6,7 +6,8 @@ use Rattle.refusal.specs.declared.Fault.the-variants.{Nothing, At}
 use Rattle.card_content.specs.declared.content.Content.the-variants.{Digits, Day, Card, OneOf}
 use Rattle.card_content.specs.declared.content.ClosedSet.the-variants.{Version, Currency, Product, Capture}
 use Rattle.card_content.specs.Field.{field}
-use Rattle.answers.specs.Samples.{at, sale, l9}
+use Rattle.demands.specs.ExampleFile.{l9}
+use Rattle.answers.specs.Samples.{at, sale}
 use base.Fml.{Lft}
 use Rattle.card_content.proofs.content.is_in_set.Reads as IsInSet
 use Rattle.card_content.proofs.content.fault_of.Reads as FaultOf

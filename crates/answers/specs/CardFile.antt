@@ -25,7 +25,8 @@ use Rattle.card_record.specs.declared.reading.Reading.the-variants.{Cv as saleR
 use Rattle.answers.specs.Totals.{amounts, totalsOf}
 use Rattle.answers.specs.CardSale.{cashSale}
 use Rattle.answers.specs.CardRun.{numbers, batch, state, refusal, noSale, oneSale, accepted, opened}
-use Rattle.answers.specs.Samples.{at, sale, l9, cardFile, cardFileOf}
+use Rattle.demands.specs.ExampleFile.{l9, fileOf}
+use Rattle.answers.specs.Samples.{at, sale, cardFile}
 use base.Fml.{Lft}
 use Rattle.card_step.proofs.took.Reads as Took
 use Rattle.card_file.proofs.feed.Reads as Feed
@@ -75,9 +76,9 @@ pub record CardFile (κ : Lft) : Type 0 where
   pub check-count : Tells (Check.Post (one κ)) (2, (lent cardFile, tt)) (accepted 5 1 oneSale) (accepted 5 1 (totalsOf 2 (amounts 10000 250 9750)))
   pub check-one-answer : Tells (Check.Post (one κ)) (2, (lent [], tt)) (refused (refusal EndsTooEarly 1 0)) (accepted 5 1 oneSale)
   -- a look at the first record alone; an edition cut down to a byte; the edition by the version string; what stands behind A9 passed over
-  pub check-first-record : Tells (Check.Post (one κ)) (2, (lent (cardFileOf (at 194 "000004" sale)), tt)) (refused (refusal SequenceWrong 3 194)) (accepted 5 1 oneSale)
+  pub check-first-record : Tells (Check.Post (one κ)) (2, (lent (fileOf (at 194 "000004" sale)), tt)) (refused (refusal SequenceWrong 3 194)) (accepted 5 1 oneSale)
   pub check-258 : Tells (Check.Post (one κ)) (258, (lent cardFile, tt)) (refused (refusal EditionUnknown 0 0)) (accepted 5 1 oneSale)
-  pub check-version : Tells (Check.Post (one κ)) (1, (lent (cardFileOf (at 54 "7" sale)), tt)) (refused (refusal ValueNotAllowed 3 54)) (accepted 5 1 oneSale)
+  pub check-version : Tells (Check.Post (one κ)) (1, (lent (fileOf (at 54 "7" sale)), tt)) (refused (refusal ValueNotAllowed 3 54)) (accepted 5 1 oneSale)
   pub check-behind-a9 : Tells (Check.Post (one κ)) (2, (lent (cardFile ++ ascii "\n"), tt)) (refused (refusal BytesAfterTheEnd 6 0)) (accepted 5 1 oneSale)
   -- `check_with_room`: 2 before 1; the file's own refusal before 2; a byte more asked for than is needed
   pub with-room : OneAnswer WithRoom.Post

@@ -1,5 +1,6 @@
 -- What the contracts of A0, L0, L9 and A9 are held to. Behind a function's name: the wrong programs that are ruled out.
 use Prim.Native.Nat.{ℕ}
+use lib.ListN.{take}
 use mathlib.Core.Bool.{Bool, true, false}
 use Rattle.refusal.specs.declared.Cause.the-variants.{WrongWidth, ByteNotAllowed, ValueNotAllowed}
 use Rattle.refusal.specs.declared.Fault.the-variants.{Nothing, At}
@@ -7,7 +8,8 @@ use Rattle.card_frame.specs.declared.a0.A0.{A0}
 use Rattle.card_frame.specs.declared.l0.L0.{L0}
 use Rattle.card_frame.specs.declared.l9.L9.{L9}
 use Rattle.card_frame.specs.declared.a9.A9.{A9}
-use Rattle.answers.specs.Samples.{at, a0, l0, l9, a9}
+use Rattle.demands.specs.ExampleFile.{a0, l0, l9, a9}
+use Rattle.answers.specs.Samples.{at}
 use base.Fml.{Lft}
 use Rattle.card_frame.proofs.a0.A0.fault.Reads as A0Fault
 use Rattle.card_frame.proofs.a0.A0.read.Reads as A0Read
@@ -58,7 +60,7 @@ pub record CardFrame (κ : Lft) : Type 0 where
   pub l9-nseq : Tells (L9Read.Post (one κ)) (lent l9, tt) (batchTrailer 1 10000 4) (batchTrailer 4 10000 4)
   -- `A9::fault`: a trailer that is cut short taken; a letter in the count taken
   pub a9-fault : OneAnswer A9Fault.Post
-  pub a9-width : Tells (A9Fault.Post (one κ)) (2, (lent l0, tt)) (At WrongWidth 0) Nothing
+  pub a9-width : Tells (A9Fault.Post (one κ)) (2, (lent (take 13 a9), tt)) (At WrongWidth 0) Nothing
   pub a9-count : Tells (A9Fault.Post (one κ)) (2, (lent (at 3 "x" a9), tt)) (At ByteNotAllowed 3) Nothing
   -- `A9::read`: the record itself not counted; count and NSEQ exchanged
   pub a9-read : OneAnswer A9Read.Post

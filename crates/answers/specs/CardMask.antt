@@ -1,7 +1,7 @@
 -- What the contracts of the masked copy, the field question and a file's day sheet are held to. Behind a function's name: the wrong programs that are ruled out.
 use Prim.Native.Nat.{ℕ}
 use mathlib.Core.List.{List, [], _++_}
-use lib.ListN.{length, take, replicate}
+use lib.ListN.{length, take}
 use denote.Ref.{now}
 use Rattle.text.specs.Literal.{ascii}
 use Rattle.refusal.specs.declared.Cause.the-variants.{EditionUnknown, OutputTooShort, SequenceWrong, KindUnknown, WrongWidth, FieldNotOffered}
@@ -10,7 +10,8 @@ use Rattle.sale_field.specs.declared.FieldAnswer.the-variants.{Offered, Refused
 use Rattle.day_sheet.specs.declared.sheet.Sheet.{Sheet}
 use Rattle.day_sheet.specs.Layout.{bytesOf}
 use Rattle.answers.specs.CardRun.{refusal, oneSale, accepted}
-use Rattle.answers.specs.Samples.{at, sale, cardFile, cardFileOf}
+use Rattle.demands.specs.ExampleFile.{fileOf}
+use Rattle.answers.specs.Samples.{at, sale, cardFile, room}
 use Rattle.card_run.specs.declared.answer.Accepted.{Accepted}
 use base.Fml.{Lft}
 use Rattle.card_mask.proofs.mask_lines.Reads as MaskLines
@@ -28,10 +29,6 @@ maskedSale = at 88 "000123456******3456" sale
 -- the example's day sheet under an edition
 abbrev daySheet : ℕ → Sheet
 daySheet edition = record { edition = edition; date = 20240229; movement = 1; batches = 1; totals = oneSale }
-
--- an output of so many bytes
-abbrev room : ℕ → List ℕ
-room size = replicate size 46
 
 -- the example's numbers
 abbrev numbers : Accepted
@@ -52,12 +49,12 @@ pub record CardMask (κ : Lft) : Type 0 where
   pub mask : OneOutcome (λ κs s. now (s .1 .1 .0)) Mask.Post
   pub mask-none :
       TellsOutcome (Mask.Post (two κ)) (2, (lent cardFile, (lent (room (length cardFile)), tt)))
-      (record { answer = accepted 5 1 oneSale; exit = (2, (lent cardFile, (lent (cardFileOf maskedSale), tt))) })
+      (record { answer = accepted 5 1 oneSale; exit = (2, (lent cardFile, (lent (fileOf maskedSale), tt))) })
       (record { answer = accepted 5 1 oneSale; exit = (2, (lent cardFile, (lent cardFile, tt))) })
   pub mask-refused :
-      TellsOutcome (Mask.Post (two κ)) (2, (lent (cardFileOf (at 194 "000004" sale)), (lent (room (length cardFile)), tt)))
-      (record { answer = Refused (refusal SequenceWrong 3 194); exit = (2, (lent (cardFileOf (at 194 "000004" sale)), (lent (room (length cardFile)), tt))) })
-      (record { answer = Refused (refusal SequenceWrong 3 194); exit = (2, (lent (cardFileOf (at 194 "000004" sale)), (lent (cardFileOf maskedSale), tt))) })
+      TellsOutcome (Mask.Post (two κ)) (2, (lent (fileOf (at 194 "000004" sale)), (lent (room (length cardFile)), tt)))
+      (record { answer = Refused (refusal SequenceWrong 3 194); exit = (2, (lent (fileOf (at 194 "000004" sale)), (lent (room (length cardFile)), tt))) })
+      (record { answer = Refused (refusal SequenceWrong 3 194); exit = (2, (lent (fileOf (at 194 "000004" sale)), (lent (fileOf maskedSale), tt))) })
   pub mask-short :
       TellsOutcome (Mask.Post (two κ)) (2, (lent cardFile, (lent (room 201), tt)))
       (record { answer = Refused (refusal OutputTooShort 0 0); exit = (2, (lent cardFile, (lent (room 201), tt))) })
@@ -91,9 +88,9 @@ pub record CardMask (κ : Lft) : Type 0 where
       (record { answer = accepted 5 1 oneSale; exit = (2, (lent cardFile, (lent (bytesOf (daySheet 2) ++ room 1), tt))) })
       (record { answer = accepted 5 1 oneSale; exit = (2, (lent cardFile, (lent (bytesOf (daySheet 2) ++ ascii "\n"), tt))) })
   pub sheet-of-refused :
-      TellsOutcome (SheetOf.Post (two κ)) (2, (lent (cardFileOf (at 194 "000004" sale)), (lent (room 52), tt)))
-      (record { answer = Refused (refusal SequenceWrong 3 194); exit = (2, (lent (cardFileOf (at 194 "000004" sale)), (lent (room 52), tt))) })
-      (record { answer = Refused (refusal SequenceWrong 3 194); exit = (2, (lent (cardFileOf (at 194 "000004" sale)), (lent (bytesOf (daySheet 2)), tt))) })
+      TellsOutcome (SheetOf.Post (two κ)) (2, (lent (fileOf (at 194 "000004" sale)), (lent (room 52), tt)))
+      (record { answer = Refused (refusal SequenceWrong 3 194); exit = (2, (lent (fileOf (at 194 "000004" sale)), (lent (room 52), tt))) })
+      (record { answer = Refused (refusal SequenceWrong 3 194); exit = (2, (lent (fileOf (at 194 "000004" sale)), (lent (bytesOf (daySheet 2)), tt))) })
   pub sheet-of-short :
       TellsOutcome (SheetOf.Post (two κ)) (2, (lent cardFile, (lent (room 51), tt)))
       (record { answer = Refused (refusal OutputTooShort 0 0); exit = (2, (lent cardFile, (lent (room 51), tt))) })

@@ -1,8 +1,8 @@
 -- What the contracts of the day sheet and of an edition are held to. Behind a function's name: the wrong programs that are ruled out.
 use Prim.Native.Nat.{ℕ}
 use mathlib.Core.Bool.{true, false}
-use mathlib.Core.List.{List, [], _∷_, _++_}
-use lib.ListN.{take, replicate}
+use mathlib.Core.List.{[], _∷_, _++_}
+use lib.ListN.{take}
 use denote.Ref.{now}
 use Rattle.text.specs.Literal.{ascii}
 use Rattle.refusal.specs.declared.Cause.the-variants.{OutputTooShort, NotADaySheet, SheetVersionUnknown, SheetNumbersNotAllowed}
@@ -14,7 +14,7 @@ use Rattle.day_sheet.specs.Layout.{bytesOf}
 use Rattle.edition.specs.declared.Edition.the-variants.{Of, NoNumber}
 use Rattle.answers.specs.Totals.{amounts, totalsOf}
 use Rattle.answers.specs.CardRun.{refusal}
-use Rattle.answers.specs.Samples.{at}
+use Rattle.answers.specs.Samples.{at, room}
 use base.Fml.{Lft}
 use Rattle.day_sheet.proofs.number.Form.put.Reads as Put
 use Rattle.day_sheet.proofs.sheet.Sheet.is_allowed.Reads as IsAllowed
@@ -27,10 +27,6 @@ use Rattle.answers.specs.Held.{OneAnswer, OneOutcome, Tells, TellsOutcom
 -- a sheet of an edition with a net
 abbrev pub sheetOf : ℕ → ℕ → Sheet
 sheetOf edition net = record { edition = edition; date = 20240229; movement = 1; batches = 1; totals = totalsOf 1 (amounts 10000 250 net) }
-
--- an output of so many bytes
-abbrev room : ℕ → List ℕ
-room size = replicate size 46
 
 pub record DaySheet (κ : Lft) : Type 0 where
   -- `Form::put`: low byte first; blanks for zeros

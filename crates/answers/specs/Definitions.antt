@@ -13,18 +13,14 @@ use Rattle.card_kept.specs.Kept.{Kept}
 use Rattle.payroll_kept.specs.Kept as payroll
 use Rattle.demands.specs.Feeding.{upTo}
 use Rattle.card_kept.specs.FirstFault.{rulesAt}
+use Rattle.demands.specs.ExampleFile.{a0, l0, l9, a9, fileOf}
 use Rattle.demands.specs.HiddenDigits.{hiddenIn, TwinFiles}
 use Rattle.demands.specs.LentBuffers.{LeftAlone}
 use Rattle.answers.specs.CardRun.{state, refusal, noSale, oneSale, accepted}
 use Rattle.answers.specs.Samples.{
   at,
-  a0,
-  l0,
   sale,
-  l9,
-  a9,
   cardFile,
-  cardFileOf,
   fileHeader,
   batchHeader,
   payment,
@@ -36,9 +32,9 @@ use Rattle.answers.specs.Samples.{
 
 pub record Definitions : Type 0 where
   -- `Kept` of a card file: the card's digits judged, a first instalment refused; a sale whose amounts disagree kept, a trailer by the net
-  pub kept-other-card : Kept 2 (cardFileOf (at 88 "0004929000000000017" sale))
-  pub kept-first-instalment : Kept 2 (cardFileOf (at 107 "0102" (at 123 "000000100000000000025000000009750" sale)))
-  pub kept-disagreeing : Kept 2 (cardFileOf (at 77 "00000009751" sale)) → ⊥
+  pub kept-other-card : Kept 2 (fileOf (at 88 "0004929000000000017" sale))
+  pub kept-first-instalment : Kept 2 (fileOf (at 107 "0102" (at 123 "000000100000000000025000000009750" sale)))
+  pub kept-disagreeing : Kept 2 (fileOf (at 77 "00000009751" sale)) → ⊥
   pub kept-by-net : Kept 2 (joined (a0 ∷ l0 ∷ sale ∷ at 9 "00000000009750" l9 ∷ a9 ∷ [])) → ⊥
   -- `Kept` of a payroll file: a Z in a file that is no return, a batch trailer that does not count itself
   pub kept-payroll : payroll.Kept payrollFile
@@ -47,7 +43,7 @@ pub record Definitions : Type 0 where
   -- `hiddenIn`: places one late, or counted without the LF; `TwinFiles`: an open digit hidden
   pub hidden-from : (hiddenIn cardFile 192 ≡ false) × (hiddenIn cardFile 193 ≡ true)
   pub hidden-to : (hiddenIn cardFile 198 ≡ true) × (hiddenIn cardFile 199 ≡ false)
-  pub twins-open-digit : TwinFiles cardFile (cardFileOf (at 88 "0001234567890123457" sale)) → ⊥
+  pub twins-open-digit : TwinFiles cardFile (fileOf (at 88 "0001234567890123457" sale)) → ⊥
   -- `rulesAt`: the place judged behind the width
   pub rules-place-first : firstBroken (rulesAt (state BetweenBatches 1 noSale) (at 200 "0" sale)) ≡ faultAt KindNotAllowedHere 0
   -- `upTo`: a refusal that shows a record late, and one that shows before its record

@@ -104,7 +104,7 @@ pub record PayrollFile (κ : Lft) : Type 0 where
   pub took-wrapped-trailer : Tells (Took.Post tt) (state BehindA 3 2 1 largest, (BatchTrailer (batchTrailerOf (Of 3) (Of 0)), tt)) (state (Refused (refusal TrailerDisagrees 4 24)) 3 2 1 largest) (state BetweenBatches 4 3 1 largest)
   pub took-10-to-the-19 : Tells (Took.Post tt) (state BetweenBatches 4 3 1 10000000000000000000, (FileTrailer (fileTrailerOf Nothing (Of 1) (Of 5)), tt)) (state (Refused (refusal TrailerDisagrees 5 0)) 4 3 1 10000000000000000000) (state Ended 5 4 1 10000000000000000000)
   pub took-not-itself : Tells (Took.Post tt) (state BehindA 3 2 1 10000, (BatchTrailer (batchTrailerOf (Of 2) (Of 10000)), tt)) (state (Refused (refusal TrailerDisagrees 4 18)) 3 2 1 10000) (state BetweenBatches 4 3 1 10000)
-  -- `Stage::allows`: a Z in a file that is no return; a B behind a B; a batch opened by nothing
+  -- `Stage::allows`: a Z in a file that is no return; a B without an A; a payment without a batch; no header at the start
   pub allows : OneAnswer Allows.Post
   pub allows-z : Tells (Allows.Post tt) (BehindA, (false, (SegmentZ, tt))) false true
   pub allows-b : Tells (Allows.Post tt) (InBatch, (true, (SegmentB, tt))) false true

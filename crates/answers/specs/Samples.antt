@@ -1,36 +1,25 @@
--- Files to try contracts on: document 01's example, "A0, L0, one cash CV with 10000, 250, 9750, L9, A9", and a payroll file with one payment.
+-- What contracts are tried on: document 01's example, a payroll file with one payment, and an output.
 use Prim.Native.Nat.{ℕ, _+_, _-_}
 use Prim.Native.String.{String}
 use mathlib.Core.List.{List, [], _∷_, _++_}
 use lib.ListN.{length, take, drop, replicate}
 use Rattle.text.specs.Literal.{ascii}
 use Rattle.lines.specs.Lines.{joined}
+use Rattle.demands.specs.ExampleFile.{saleWith, fileOf}
 
 -- a record with another text at a position, which counts from 1
 abbrev pub at : ℕ → String → List ℕ → List ℕ
 at position text r = take (position - 1) r ++ (ascii text ++ drop (position - 1 + length (ascii text)) r)
 
-abbrev pub a0 : List ℕ
-a0 = ascii "A0001.7d20240229120000000001LOSSIVURN                     0001000001N000001"
-
-abbrev pub l0 : List ℕ
-l0 = ascii "L020240229RE000002"
-
 abbrev pub sale : List ℕ
-sale = ascii "CVSTORE          00000000000120240229113000120240330C100000010000000000002500000000975000012345678901234560000000000000000000000000000000000000000000000000422000001          1000000000001001001000003"
-
-abbrev pub l9 : List ℕ
-l9 = ascii "L900000100000000010000000004"
-
-abbrev pub a9 : List ℕ
-a9 = ascii "A9000005000005"
+sale = saleWith "0001234567890123456"
 
 abbrev pub cardFile : List ℕ
-cardFile = joined (a0 ∷ l0 ∷ sale ∷ l9 ∷ a9 ∷ [])
+cardFile = fileOf sale
 
--- the same with another sale
-abbrev pub cardFileOf : List ℕ → List ℕ
-cardFileOf other = joined (a0 ∷ l0 ∷ other ∷ l9 ∷ a9 ∷ [])
+-- an output of so many bytes
+abbrev pub room : ℕ → List ℕ
+room size = replicate size 46
 
 -- a payroll record: its front, and blanks up to 240
 abbrev pub padded : String → List ℕ

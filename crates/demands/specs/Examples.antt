@@ -1,7 +1,7 @@
 -- Document 01's examples marked (p), in its order, as one list and one statement.
 use Prim.Native.Nat.{ℕ}
 use Prim.Native.String.{String}
-use mathlib.Core.List.{List, [], _∷_, _++_}
+use mathlib.Core.List.{List, [], _∷_}
 use mathlib.Core.Bool.{Bool, true, false, not, _&&_}
 use lib.Dec.{eqb}
 use Rattle.refusal.specs.Row.{RefusalRow}
@@ -14,6 +14,7 @@ use Rattle.card_run.specs.declared.running.Running.{Running}
 use Rattle.card_run.specs.Running.{openOf}
 use Rattle.card_run.specs.Answer.{answerOf, cardFileRow}
 use Rattle.card_file.specs.Feeding.{fedOf, fedAll}
+use Rattle.demands.specs.ExampleFile.{a0, l0, cashSale}
 
 pub data Example : Type 0 where
   -- a card field, and what masking gives
@@ -31,25 +32,13 @@ namesDay NotDigits = false
 namesDay NoSuch = false
 namesDay (At n) = true
 
--- a cash sale, 199 bytes: "sale gross 55-65, discount 66-76, net 77-87"; no instalment, and its NSEQ is 3
-abbrev cashSale : String → String → String → List ℕ
-cashSale gross discount net =
-    ascii "CVSTORE          00000000000120240229113000120240330C1" ++
-    (ascii gross ++
-    (ascii discount ++
-    (ascii net ++
-    ascii "00012345678901234560000000000000000000000000000000000000000000000000422000001          1000000000001001001000003")))
-
--- its place: behind A0 and L0, under edition 2
+-- the place of a sale: behind A0 and L0, under edition 2
 abbrev inBatch : Running
-inBatch =
-    fedAll (openOf 2)
-    (ascii "A0001.7d20240229120000000001LOSSIVURN                     0001000001N000001" ∷
-    ascii "L020240229RE000002" ∷ [])
+inBatch = fedAll (openOf 2) (a0 ∷ l0 ∷ [])
 
--- the refusal after that sale, taken at its place
+-- the refusal after a cash sale, taken at its place
 abbrev afterSale : String → String → String → RefusalRow
-afterSale gross discount net = cardFileRow (answerOf (fedOf inBatch (cashSale gross discount net))) .refusal
+afterSale gross discount net = cardFileRow (answerOf (fedOf inBatch (cashSale gross discount net "0001234567890123456"))) .refusal
 
 -- whether a row of the paper has a number of the refusal list, 0 for none, and a column
 abbrev isAt : ℕ → ℕ → RefusalRow → Bool

@@ -1,3 +1,4 @@
+pub mod ExampleFile
 pub mod Examples
 pub mod Feeding
 pub mod InChunks

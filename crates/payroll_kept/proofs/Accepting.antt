@@ -21,8 +21,8 @@ use Rattle.payroll_kept.specs.Records.{BatchTrailerKept, FileTrailerKept
 use Rattle.payroll_kept.specs.Kept.{Payment, Batch, File, paymentRecords, details, batchRecords, batchesRecords, recordsOf, batchesPayments, paymentsOf, amountOf, BatchKept, BatchesKept, FileKept, Kept}
 use Rattle.payroll_kept.proofs.Rules.{holds-below}
 use Rattle.payroll_kept.proofs.Plain.{cap, after, behindPlain}
-use Rattle.payroll_kept.proofs.Steps.{fedOf, step}
-use Rattle.payroll_kept.proofs.Payments.{fedAll, fed-row, lines-are, trailer-too, payments-taken}
+use Rattle.payroll_kept.proofs.Steps.{tookRecord, step}
+use Rattle.payroll_kept.proofs.Payments.{tookRecords, took-row, lines-are, trailer-too, payments-taken}
 use Rattle.payroll_kept.proofs.OneLine.{file-cut}
 
 -- the amounts of payments in a row
@@ -50,10 +50,10 @@ module _ (header : List ℕ) where
   -- a batch; what is left of it in the state does not matter
   record BatchTaken (st : Running) (b : Batch) : Type 0 where
     left : Open
-    is : fedAll (cap st) (batchRecords b) ≡ cap (done st left (length (batchRecords b)) 1 (length (b .payments)) (amountOf (b .payments)))
+    is : tookRecords (cap st) (batchRecords b) ≡ cap (done st left (length (batchRecords b)) 1 (length (b .payments)) (amountOf (b .payments)))
 
   batch-taken : (b : Batch) (st : Running) → st .«is_return» ≡ isReturn header → st .stage ≡ BetweenBatches → BatchKept header (st .batches + 1) b → BatchTaken st b
-  unfolding fedAll
+  unfolding tookRecords
   batch-taken b st q s k =
       let begun = behindPlain BatchHeader st (b .header) in
       let first = step BatchHeader st (b .header) (record { place = ap (λ s. placed s (st .«is_return») BatchHeader) s; kept = k .opens }) in
@@ -70,19 +70,19 @@ module _ (header : List ℕ) where
       record {
         left = end .batch;
         is =
-            ap (λ s. fedAll s (details (b .payments) ++ (b .trailer ∷ []))) first ∙ fed-row (cap begun) (details (b .payments)) (b .trailer ∷ []) ∙
-            ap (λ s. fedOf s (b .trailer)) (paid .is) ∙ last ∙ ap cap same;
+            ap (λ s. tookRecords s (details (b .payments) ++ (b .trailer ∷ []))) first ∙ took-row (cap begun) (details (b .payments)) (b .trailer ∷ []) ∙
+            ap (λ s. tookRecord s (b .trailer)) (paid .is) ∙ last ∙ ap cap same;
       }
 
   -- batches
   record BatchesTaken (st : Running) (bs : List Batch) : Type 0 where
     left : Open
-    is : fedAll (cap st) (batchesRecords bs) ≡
+    is : tookRecords (cap st) (batchesRecords bs) ≡
         cap (done st left (length (batchesRecords bs)) (length bs) (length (batchesPayments bs)) (amountOf (batchesPayments bs)))
 
   batches-taken : (bs : List Batch) (st : Running) → st .«is_return» ≡ isReturn header → st .stage ≡ BetweenBatches → BatchesKept header (st .batches + 1) bs →
       BatchesTaken st bs
-  unfolding fedAll batchesRecords batchesPayments amountOf BatchesKept
+  unfolding tookRecords batchesRecords batchesPayments amountOf BatchesKept
   batches-taken [] st q s k =
       let n : st .records ≡ st .records + 0 = omega arith in
       let b : st .batches ≡ st .batches + 0 = omega arith in
@@ -110,7 +110,7 @@ module _ (header : List ℕ) where
       record {
         left = rest .left;
         is =
-            fed-row (cap st) (batchRecords b) (batchesRecords bs) ∙ ap (λ s. fedAll s (batchesRecords bs)) (first .is) ∙ rest .is ∙ ap cap same;
+            took-row (cap st) (batchRecords b) (batchesRecords bs) ∙ ap (λ s. tookRecords s (batchesRecords bs)) (first .is) ∙ rest .is ∙ ap cap same;
       }
 
 -- the state that the records of a file lead to
@@ -120,10 +120,10 @@ ended f left =
 
 record FileTaken (f : File) : Type 0 where
   left : Open
-  is : fedAll opened (recordsOf f) ≡ cap (ended f left)
+  is : tookRecords opened (recordsOf f) ≡ cap (ended f left)
 
 file-taken : (f : File) → FileKept f → FileTaken f
-unfolding fedAll
+unfolding tookRecords
 file-taken f k =
     let begun = behindPlain FileHeader opened (f .header) in
     let first = step FileHeader opened (f .header) (record { place = refl; kept = k .header }) in
@@ -142,8 +142,8 @@ file-taken f k =
     record {
       left = end .batch;
       is =
-          ap (λ s. fedAll s (batchesRecords (f .batches) ++ (f .trailer ∷ []))) first ∙ fed-row (cap begun) (batchesRecords (f .batches)) (f .trailer ∷ []) ∙
-          ap (λ s. fedOf s (f .trailer)) (batches .is) ∙ last ∙ ap cap same;
+          ap (λ s. tookRecords s (batchesRecords (f .batches) ++ (f .trailer ∷ []))) first ∙ took-row (cap begun) (batchesRecords (f .batches)) (f .trailer ∷ []) ∙
+          ap (λ s. tookRecord s (f .trailer)) (batches .is) ∙ last ∙ ap cap same;
     }
 
 -- the numbers of an answer

@@ -29,7 +29,7 @@ use Rattle.payroll_kept.specs.FirstFault.{endRule}
 use Rattle.payroll_kept.proofs.Going.{Going}
 use Rattle.payroll_kept.specs.FirstFaultOfFile.{Next, piece, rest, nextRules, piecesHold, FirstFaultOfFile, AllHoldInFile, FirstFaultDecides}
 use Rattle.payroll_kept.proofs.Plain.{cap, behindPlain}
-use Rattle.payroll_kept.proofs.Steps.{fedOf, step, stepped}
+use Rattle.payroll_kept.proofs.Steps.{tookRecord, step, stepped}
 use Rattle.payroll_kept.proofs.Known.{clash}
 use Rattle.payroll_kept.proofs.Pieces.{answered, rest-answered, piece-goes-on, pieces-go-on, finished, finished-pieces, next-refused}
 
@@ -125,7 +125,7 @@ counted (p ∷ ps) st going h =
     let here = both-left (allHold rules) (piecesHold (lineOf (cap st) p) ps) h in
     let r = withoutLast p in
     let on = piece-goes-on (cap st) p going (none-broken rules here) in
-    let line : lineOf (cap st) p ≡ fedOf (cap st) r = ap (λ t. cond t (fedOf (cap st) r) (unendedOf (cap st))) (ends (cap st) p here) in
+    let line : lineOf (cap st) p ≡ tookRecord (cap st) r = ap (λ t. cond t (tookRecord (cap st) r) (unendedOf (cap st))) (ends (cap st) p here) in
     let took = stepped st r (subst Going line on) in
     let next = behindPlain (took .kind) st r in
     let is : lineOf (cap st) p ≡ cap next = line ∙ step (took .kind) st r (took .next) in

@@ -16,7 +16,7 @@ use Rattle.payroll_file.specs.PayrollFile.{checkOf}
 use Rattle.payroll_kept.specs.Kept.{File, batchesRecords, recordsOf, FileKept, Kept}
 use Rattle.payroll_kept.proofs.Plain.{behindPlain}
 use Rattle.payroll_kept.proofs.Next.{Next}
-use Rattle.payroll_kept.proofs.Steps.{fedOf, step, stepped}
+use Rattle.payroll_kept.proofs.Steps.{tookRecord, step, stepped}
 use Rattle.payroll_kept.proofs.Refused.{EndsAccepted, piece, too-early}
 use Rattle.payroll_kept.proofs.Accepting.{file-trailer-at}
 use Rattle.payroll_kept.proofs.Left.{BatchesLeft, says}
@@ -29,7 +29,7 @@ record Whole (ps : List (List ℕ)) (rest : List ℕ) : Type 0 where
   mark : rest ≡ 26 ∷ []
 
 -- the first record is the header
-module _ (r : List ℕ) (ps : List (List ℕ)) (rest : List ℕ) (a : Accepted) (taken : EndsAccepted (fedOf opened r) ps rest a) where
+module _ (r : List ℕ) (ps : List (List ℕ)) (rest : List ℕ) (a : Accepted) (taken : EndsAccepted (tookRecord opened r) ps rest a) where
   begins : (kind : Kind) → Next kind opened r → Whole (withCr r ∷ ps) rest
   begins FileHeader n =
       let next = behindPlain FileHeader opened r in

@@ -35,7 +35,7 @@ use Rattle.payroll_kept.specs.Kept.{
 }
 use Rattle.payroll_kept.proofs.Plain.{cap, behindPlain}
 use Rattle.payroll_kept.proofs.Next.{NextKept, Next}
-use Rattle.payroll_kept.proofs.Steps.{fedOf, step, stepped}
+use Rattle.payroll_kept.proofs.Steps.{tookRecord, step, stepped}
 use Rattle.payroll_kept.proofs.Refused.{EndsAccepted, piece, too-early, mark-behind}
 use Rattle.payroll_kept.proofs.Payments.{behindIf, payment-is, z-number, if-there, same-batch}
 use Rattle.payroll_kept.proofs.Accepting.{amount-row, batch-trailer-at, file-trailer-at}
@@ -212,7 +212,7 @@ module _ (header : List ℕ) (rest : List ℕ) where
 
   -- by the kind of the next record, with what the run behind it says
   module _ (st : Running) (q : st .«is_return» ≡ isReturn header) (r : List ℕ) (ps : List (List ℕ)) (a : Accepted)
-      (taken : EndsAccepted (fedOf (cap st) r) ps rest a)
+      (taken : EndsAccepted (tookRecord (cap st) r) ps rest a)
       (others : (next : Running) → next .«is_return» ≡ isReturn header → EndsAccepted (cap next) ps rest a → SaysLeft next ps) where
     went-on : (kind : Kind) → Next kind st r → EndsAccepted (cap (behindPlain kind st r)) ps rest a
     went-on kind n = subst (λ s. EndsAccepted s ps rest a) (step kind st r n) taken

@@ -22,26 +22,26 @@ use Rattle.payroll_kept.specs.Records.{DetailKept, ZKept}
 use Rattle.payroll_kept.specs.Kept.{Payment, ifThere, paymentRecords, details, amountAt, amountOf, IfThere, PaymentKept, PaymentsKept}
 use Rattle.payroll_kept.proofs.Plain.{cap, after, behindPlain}
 use Rattle.payroll_kept.proofs.Next.{Next}
-use Rattle.payroll_kept.proofs.Steps.{fedOf, step}
+use Rattle.payroll_kept.proofs.Steps.{tookRecord, step}
 
 -- records, one after the other
-unfoldable pub fedAll : Running → List (List ℕ) → Running
-fedAll st [] = st
-fedAll st (r ∷ rs) = fedAll (fedOf st r) rs
+unfoldable pub tookRecords : Running → List (List ℕ) → Running
+tookRecords st [] = st
+tookRecords st (r ∷ rs) = tookRecords (tookRecord st r) rs
 
-pub fed-row : (st : Running) (rs ss : List (List ℕ)) → fedAll st (rs ++ ss) ≡ fedAll (fedAll st rs) ss
-unfolding fedAll
-fed-row st [] ss = refl
-fed-row st (r ∷ rs) ss = fed-row (fedOf st r) rs ss
+pub took-row : (st : Running) (rs ss : List (List ℕ)) → tookRecords st (rs ++ ss) ≡ tookRecords (tookRecords st rs) ss
+unfolding tookRecords
+took-row st [] ss = refl
+took-row st (r ∷ rs) ss = took-row (tookRecord st r) rs ss
 
 -- a record with its CR is a line
-line-is : (st : Running) (r : List ℕ) → lineOf st (withCr r) ≡ fedOf st r
+line-is : (st : Running) (r : List ℕ) → lineOf st (withCr r) ≡ tookRecord st r
 line-is st r = rw (cr-ends r, before-last r cr)
 
-pub lines-are : (st : Running) (rs : List (List ℕ)) → linesOf st (map withCr rs) ≡ fedAll st rs
-unfolding linesOf fedAll
+pub lines-are : (st : Running) (rs : List (List ℕ)) → linesOf st (map withCr rs) ≡ tookRecords st rs
+unfolding linesOf tookRecords
 lines-are st [] = refl
-lines-are st (r ∷ rs) = ap (λ s. linesOf s (map withCr rs)) (line-is st r) ∙ lines-are (fedOf st r) rs
+lines-are st (r ∷ rs) = ap (λ s. linesOf s (map withCr rs)) (line-is st r) ∙ lines-are (tookRecord st r) rs
 
 -- the same state, its numbers written in another way
 pub same-after : (st : Running) (s : Stage) {d d' n n' m m' : ℕ} → d ≡ d' → n ≡ n' → m ≡ m' → after st s d n m ≡ after st s d' n' m'
@@ -132,8 +132,8 @@ same-batch (some b) st a = refl
 
 -- a record that may be there is taken
 if-taken : (kind : Kind) (stage : Stage) (st : Running) → ((r : List ℕ) → behindPlain kind st r ≡ after st stage 1 0 0) → (o : Option (List ℕ)) →
-    IfThere (Next kind st) o → fedAll (cap st) (ifThere o) ≡ cap (behindIf stage o st)
-unfolding fedAll
+    IfThere (Next kind st) o → tookRecords (cap st) (ifThere o) ≡ cap (behindIf stage o st)
+unfolding tookRecords
 if-taken kind stage st e none k = refl
 if-taken kind stage st e (some r) k = step kind st r k ∙ ap cap (e r)
 
@@ -141,8 +141,8 @@ module _ (header : List ℕ) where
   -- a payment
   payment-taken : (p : Payment) (st : Running) → st .«is_return» ≡ isReturn header → Inside (st .stage) (st .«is_return») →
       PaymentKept header (st .batches) (st .batch .details + 1) p →
-      fedAll (cap st) (paymentRecords p) ≡ cap (after st (stageBehind (p .b) (p .z)) (length (paymentRecords p)) 1 (amountAt (p .a)))
-  unfolding fedAll
+      tookRecords (cap st) (paymentRecords p) ≡ cap (after st (stageBehind (p .b) (p .z)) (length (paymentRecords p)) 1 (amountAt (p .a)))
+  unfolding tookRecords
   payment-taken p st q inside k =
       let first = step SegmentA st (p .a) (record { place = inside; kept = k .a }) in
       let one = behindPlain SegmentA st (p .a) in
@@ -156,18 +156,18 @@ module _ (header : List ℕ) where
             (subst (λ n. DetailKept "Z" n (st .batch .details + 1 + length (p .a ∷ ifThere (p .b))) r) (sym (same-batch (p .b) st (p .a))) (k .detail));
       } in
       let third = if-taken SegmentZ InBatch two (λ r. refl) (p .z) (if-there (p .z) z (k .z)) in
-      ap (λ s. fedAll s (ifThere (p .b) ++ ifThere (p .z))) first ∙ fed-row (cap one) (ifThere (p .b)) (ifThere (p .z)) ∙
-      ap (λ s. fedAll s (ifThere (p .z))) second ∙ third ∙ ap cap (payment-is st (p .a) (p .b) (p .z))
+      ap (λ s. tookRecords s (ifThere (p .b) ++ ifThere (p .z))) first ∙ took-row (cap one) (ifThere (p .b)) (ifThere (p .z)) ∙
+      ap (λ s. tookRecords s (ifThere (p .z))) second ∙ third ∙ ap cap (payment-is st (p .a) (p .b) (p .z))
 
   -- payments
   pub record Taken (st : Running) (ps : List Payment) : Type 0 where
     pub stage : Stage
     pub inside : Inside stage (st .«is_return»)
-    pub is : fedAll (cap st) (details ps) ≡ cap (after st stage (length (details ps)) (length ps) (amountOf ps))
+    pub is : tookRecords (cap st) (details ps) ≡ cap (after st stage (length (details ps)) (length ps) (amountOf ps))
 
   pub payments-taken : (ps : List Payment) (st : Running) → st .«is_return» ≡ isReturn header → Inside (st .stage) (st .«is_return») →
       PaymentsKept header (st .batches) (st .batch .details + 1) ps → Taken st ps
-  unfolding fedAll details amountOf PaymentsKept
+  unfolding tookRecords details amountOf PaymentsKept
   payments-taken [] st q inside k = record { stage = st .stage; inside = inside; is = ap cap (after-none st) }
   payments-taken (p ∷ ps) st q inside (k, ks) =
       let first = payment-taken p st q inside k in
@@ -180,7 +180,7 @@ module _ (header : List ℕ) where
         stage = rest .stage;
         inside = rest .inside;
         is =
-            fed-row (cap st) (paymentRecords p) (details ps) ∙ ap (λ s. fedAll s (details ps)) first ∙ rest .is ∙
+            took-row (cap st) (paymentRecords p) (details ps) ∙ ap (λ s. tookRecords s (details ps)) first ∙ rest .is ∙
             ap cap (after-after st s (rest .stage) (length (paymentRecords p)) 1 (amountAt (p .a)) (length (details ps)) (length ps) (amountOf ps) ∙
             same-after st (rest .stage) (sym (length-append (paymentRecords p) (details ps))) (omega arith) refl);
       }

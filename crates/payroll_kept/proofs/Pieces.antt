@@ -25,7 +25,7 @@ use Rattle.payroll_file.specs.PayrollFile.{unendedAt, unendedOf, lineOf, linesO
 use Rattle.payroll_kept.specs.FirstFault.{ended, endRule, rulesFromWidth}
 use Rattle.payroll_kept.proofs.Going.{Going}
 use Rattle.payroll_kept.specs.FirstFaultOfFile.{Next, piece, rest, nextRules, piecesHold}
-use Rattle.payroll_kept.proofs.Steps.{fedOf}
+use Rattle.payroll_kept.proofs.Steps.{tookRecord}
 use Rattle.payroll_kept.proofs.Refused.{line-same}
 use Rattle.payroll_kept.proofs.AtItsPlace.{by-the-list}
 use Rattle.payroll_kept.proofs.FirstFault.{goes-on}
@@ -47,7 +47,7 @@ piece-judged st p going = by (endsInCr p)
     unended (Refused x) q = absurd (going x q)
 
     by : (t : Bool) →
-        cond t (fedOf st (withoutLast p)) (unendedOf st) ≡
+        cond t (tookRecord st (withoutLast p)) (unendedOf st) ≡
         behindOrRefused st (readingOf (withoutLast p)) (firstBroken (endRule st ∷ ruleAt NoLineEnd 0 t ∷ rulesFromWidth st (withoutLast p)))
     by true = by-the-list st (withoutLast p) going
     by false = unended (st .stage) refl

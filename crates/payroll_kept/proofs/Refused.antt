@@ -23,7 +23,7 @@ use Rattle.payroll_step.specs.Step.{tookAt}
 use Rattle.payroll_file.specs.PayrollFile.{unendedAt, unendedOf, lineOf, linesOf, endedOf, cutShortOf, endAt, endOf}
 use Rattle.payroll_kept.proofs.Going.{Going}
 use Rattle.payroll_kept.proofs.Plain.{cap}
-use Rattle.payroll_kept.proofs.Steps.{fedOf, stepped}
+use Rattle.payroll_kept.proofs.Steps.{tookRecord, stepped}
 
 -- a run over pieces and a rest is accepted
 abbrev pub EndsAccepted : Running → List (List ℕ) → List ℕ → Accepted → Type 0
@@ -50,7 +50,7 @@ module _ (st : Running) (x : Refusal) (q : st .stage ≡ Refused x) where
   unfolding tookAt unendedAt
   line-same p = by (endsInCr p)
     where
-      by : (t : Bool) → cond t (fedOf st (withoutLast p)) (unendedOf st) ≡ st
+      by : (t : Bool) → cond t (tookRecord st (withoutLast p)) (unendedOf st) ≡ st
       by true = ap (λ s. tookAt s st (readingOf (withoutLast p))) q
       by false = ap (λ s. unendedAt s st) q
 
@@ -70,16 +70,16 @@ alive st ps rest a h x q =
 pub record Piece (st : Running) (p : List ℕ) (ps : List (List ℕ)) (rest : List ℕ) (a : Accepted) : Type 0 where
   pub bytes : List ℕ
   pub is : p ≡ withCr bytes
-  pub taken : EndsAccepted (fedOf st bytes) ps rest a
-  pub goes : Going (fedOf st bytes)
+  pub taken : EndsAccepted (tookRecord st bytes) ps rest a
+  pub goes : Going (tookRecord st bytes)
 
 pub piece : (st : Running) (p : List ℕ) (ps : List (List ℕ)) (rest : List ℕ) (a : Accepted) → EndsAccepted st (p ∷ ps) rest a → Piece st p ps rest a
 unfolding linesOf
 piece st p ps rest a h = by (endsInCr p) refl h
   where
-    by : (t : Bool) → endsInCr p ≡ t → EndsAccepted (cond t (fedOf st (withoutLast p)) (unendedOf st)) ps rest a → Piece st p ps rest a
+    by : (t : Bool) → endsInCr p ≡ t → EndsAccepted (cond t (tookRecord st (withoutLast p)) (unendedOf st)) ps rest a → Piece st p ps rest a
     by true e h =
-        record { bytes = withoutLast p; is = record-and-cr p e; taken = h; goes = alive (fedOf st (withoutLast p)) ps rest a h }
+        record { bytes = withoutLast p; is = record-and-cr p e; taken = h; goes = alive (tookRecord st (withoutLast p)) ps rest a h }
     by false e h = absurd (unended-refused (st .stage) st refl (alive (unendedOf st) ps rest a h))
 
 -- where a kind may stand, the file does not end

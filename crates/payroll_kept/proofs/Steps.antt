@@ -30,8 +30,8 @@ use Rattle.payroll_kept.proofs.Plain.{cap, behindPlain, behind-is}
 use Rattle.payroll_kept.proofs.Next.{Next, is-next, none-broken, amounts}
 
 -- a record taken by a run
-abbrev pub fedOf : Running → List ℕ → Running
-fedOf st r = tookOf st (readingOf r)
+abbrev pub tookRecord : Running → List ℕ → Running
+tookRecord st r = tookOf st (readingOf r)
 
 -- where a kind may stand, what was read is judged
 is-judged : (s : Stage) (returned : Bool) (kind : Kind) (st : Running) (reading : Reading) → placed s returned kind ≡ true → tookAt s st reading ≡ judgedOf st reading
@@ -45,7 +45,7 @@ is-judged Ended t kind st reading p = absurd (false≢true p)
 is-judged (Refused x) t kind st reading p = absurd (false≢true p)
 
 -- a record that may stand there and keeps the rules is taken
-pub step : (kind : Kind) (st : Running) (r : List ℕ) → Next kind st r → fedOf (cap st) r ≡ cap (behindPlain kind st r)
+pub step : (kind : Kind) (st : Running) (r : List ℕ) → Next kind st r → tookRecord (cap st) r ≡ cap (behindPlain kind st r)
 unfolding behindOrRefused readFound
 step kind st r n =
     let b = none-broken kind st r n in
@@ -78,7 +78,7 @@ module _ (st : Running) where
   by-stage Ended reading q going = absurd (going _ refl)
   by-stage (Refused x) reading q going = absurd (going x q)
 
-pub stepped : (st : Running) (r : List ℕ) → Going (fedOf (cap st) r) → Stepped st r
+pub stepped : (st : Running) (r : List ℕ) → Going (tookRecord (cap st) r) → Stepped st r
 unfolding rulesOf readFound firstBroken
 stepped st r going = by (eqb (length r) 240) (kindOf r) refl refl (by-stage (cap st) (st .stage) (readingOf r) refl going)
   where

@@ -70,7 +70,7 @@ ended BehindB = false
 ended Ended = true
 ended (Refused r) = false
 
--- 4: "An unknown kind is 4, column 8; an unknown segment 4, column 14"
+-- whether bytes are one of these texts
 unfoldable pub isOneOf : List String → List ℕ → Bool
 isOneOf [] s = false
 isOneOf (t ∷ ts) s = sameBytes s (ascii t) || isOneOf ts s
@@ -82,7 +82,7 @@ kindKnown r = isOneOf ("0" ∷ "1" ∷ "3" ∷ "5" ∷ "9" ∷ []) (positions 8 
 abbrev pub segmentKnown : List ℕ → Bool
 segmentKnown r = not (sameBytes (positions 8 8 r) (ascii "3")) || isOneOf ("A" ∷ "B" ∷ "Z" ∷ []) (positions 14 14 r)
 
--- "6, 4, 5, then 7 for any byte .., then its fields"
+-- "6, 4, 5, then 7 for any byte .., then its fields"; "An unknown kind is 4, column 8; an unknown segment 4, column 14"
 abbrev pub rulesFromWidth : Running → List ℕ → List Rule
 rulesFromWidth st r =
     ruleAt WrongWidth 0 (eqb (length r) 240) ∷
