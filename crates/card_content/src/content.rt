@@ -1,7 +1,15 @@
 // What a field may hold, and the fault of a part that holds something else.
 ghost use mathlib.Core.Path.{_≡_};
 ghost use Rattle.refusal.specs.Rules.{firstBroken};
-ghost use Rattle.card_content.specs.Content.{isCurrency, inSet, contentRules};
+ghost use Rattle.card_content.specs.Content.{
+  isCurrency,
+  isCapture,
+  isAdjustmentCapture,
+  inSet,
+  dayOrZerosRules,
+  cardOrBlanksRules,
+  contentRules,
+};
 use refusal::Cause;
 use refusal::Fault;
 use text::alphabet::Alphabet;
@@ -13,8 +21,12 @@ pub enum Content {
     // AN.
     Text,
     Day,
+    // A day marked optional: it may be all zeros.
+    DayOrZeros,
     Time,
     Card,
+    // A card marked optional: it may be all blanks.
+    CardOrBlanks,
     OneOf(ClosedSet),
 }
 
@@ -26,6 +38,8 @@ pub enum ClosedSet {
     LaunchType,
     Product,
     Capture,
+    AdjustmentCapture,
+    AdjustmentType,
 }
 
 // Whether a part is one of the four currencies.
@@ -44,6 +58,28 @@ fn is_currency(part: &[u8]) -> bool
     text::literal::equals(part, b"  ")
 }
 
+// Whether a part is a capture of a sale: 7 only under edition 2.
+fn is_capture(edition: u64, part: &[u8]) -> bool
+    ensures { λ r. ⌜ r ≡ isCapture edition (now (part .entry)) ⌝ }
+{
+    if edition == 2 {
+        text::literal::is_one_of(part, b"123456789")
+    } else {
+        text::literal::is_one_of(part, b"12345689")
+    }
+}
+
+// Whether a part is a capture of an adjustment: no 8, and 7 only under edition 2.
+fn is_adjustment_capture(edition: u64, part: &[u8]) -> bool
+    ensures { λ r. ⌜ r ≡ isAdjustmentCapture edition (now (part .entry)) ⌝ }
+{
+    if edition == 2 {
+        text::literal::is_one_of(part, b"12345679")
+    } else {
+        text::literal::is_one_of(part, b"1234569")
+    }
+}
+
 // Whether a part is a value of a closed set. Only captures go by the edition.
 pub fn is_in_set(set: ClosedSet, edition: u64, part: &[u8]) -> bool
     ensures { λ r. ⌜ r ≡ inSet set edition (now (part .entry)) ⌝ }
@@ -54,14 +90,30 @@ pub fn is_in_set(set: ClosedSet, edition: u64, part: &[u8]) -> bool
         ClosedSet::Currency => is_currency(part),
         ClosedSet::LaunchType => text::literal::is_one_of(part, b"012"),
         ClosedSet::Product => text::literal::is_one_of(part, b"CDV"),
-        ClosedSet::Capture => {
-            if edition == 2 {
-                text::literal::is_one_of(part, b"123456789")
-            } else {
-                text::literal::is_one_of(part, b"12345689")
-            }
-        }
+        ClosedSet::Capture => is_capture(edition, part),
+        ClosedSet::AdjustmentCapture => is_adjustment_capture(edition, part),
+        ClosedSet::AdjustmentType => text::literal::is_one_of(part, b"12"),
     }
+}
+
+// The fault of a part that should hold a day or zeros.
+fn day_or_zeros_fault(column: u64, part: &[u8]) -> Fault
+    ensures { λ r. ⌜ r ≡ firstBroken (dayOrZerosRules column (now (part .entry))) ⌝ }
+{
+    if text::literal::equals(part, b"00000000") {
+        return Fault::Nothing;
+    }
+    calendar::day::year_first(part).fault(column)
+}
+
+// The fault of a part that should hold a card or blanks.
+fn card_or_blanks_fault(column: u64, part: &[u8]) -> Fault
+    ensures { λ r. ⌜ r ≡ firstBroken (cardOrBlanksRules column (now (part .entry))) ⌝ }
+{
+    if text::literal::equals(part, b"                   ") {
+        return Fault::Nothing;
+    }
+    refusal::rule(Cause::ByteNotAllowed, column, pan::well_formed(part))
 }
 
 // The fault of a part that should hold this content.
@@ -80,7 +132,9 @@ pub fn fault_of(content: Content, edition: u64, column: u64, part: &[u8]) -> Fau
             text::alphabet::holds_only(Alphabet::CardText, part),
         ),
         Content::Card => refusal::rule(Cause::ByteNotAllowed, column, pan::well_formed(part)),
+        Content::CardOrBlanks => card_or_blanks_fault(column, part),
         Content::Day => calendar::day::year_first(part).fault(column),
+        Content::DayOrZeros => day_or_zeros_fault(column, part),
         Content::Time => calendar::time::time_of(part).fault(column),
         Content::OneOf(set) => {
             refusal::rule(

@@ -23,7 +23,7 @@ pub record L0Below (n : L0) : Type 0 where
 
 pub record L9Below (n : L9) : Type 0 where
   pub count : n .count < 10 ^ 6
-  pub gross : n .gross < 10 ^ 14
+  pub sum : n .sum < 10 ^ 14
   pub nseq : n .nseq < 10 ^ 6
 
 pub record A9Below (n : A9) : Type 0 where
@@ -46,7 +46,7 @@ pub l9-below : (r : List ℕ) → L9Below (l9Of r)
 l9-below r =
     record {
       count = number-below (field 3 8 Digits) r;
-      gross = number-below (field 9 22 Digits) r;
+      sum = number-below (field 9 22 Digits) r;
       nseq = number-below (field 23 28 Digits) r;
     }
 

@@ -6,9 +6,9 @@ use Rattle.card_content.specs.declared.field.Field.{Field}
 use Rattle.card_content.specs.Field.{field, numberIn}
 use Rattle.card_frame.specs.declared.l9.L9.{L9}
 
--- count of the batch's sales 3-8, sum of their payable gross 9-22, NSEQ 23-28
+-- count of the batch's sales and adjustments 3-8, their sum 9-22, NSEQ 23-28
 abbrev pub l9Table : List Field
 l9Table = field 3 8 Digits ∷ field 9 22 Digits ∷ field 23 28 Digits ∷ []
 
 abbrev pub l9Of : List ℕ → L9
-l9Of r = record { count = numberIn (field 3 8 Digits) r; gross = numberIn (field 9 22 Digits) r; nseq = numberIn (field 23 28 Digits) r }
+l9Of r = record { count = numberIn (field 3 8 Digits) r; sum = numberIn (field 9 22 Digits) r; nseq = numberIn (field 23 28 Digits) r }

@@ -1,4 +1,4 @@
-// L9, the trailer of a batch: it counts the batch's sales and sums their payable gross.
+// L9, the trailer of a batch: it counts the batch's sales and adjustments, and sums them.
 ghost use mathlib.Core.Path.{_≡_};
 ghost use Rattle.refusal.specs.Rules.{firstBroken};
 ghost use Rattle.card_content.specs.Field.{recordRules};
@@ -11,7 +11,7 @@ use refusal::Fault;
 // What later rules need of it.
 pub struct L9 {
     pub count: u64,
-    pub gross: u64,
+    pub sum: u64,
     pub nseq: u64,
 }
 
@@ -20,7 +20,7 @@ impl L9 {
 
     pub const COUNT: Field = Field(3, 8, Content::Digits);
 
-    pub const GROSS: Field = Field(9, 22, Content::Digits);
+    pub const SUM: Field = Field(9, 22, Content::Digits);
 
     pub const NSEQ: Field = Field(23, 28, Content::Digits);
 
@@ -33,7 +33,7 @@ impl L9 {
         }
         L9::COUNT
             .fault(edition, bytes)
-            .earlier(L9::GROSS.fault(edition, bytes))
+            .earlier(L9::SUM.fault(edition, bytes))
             .earlier(L9::NSEQ.fault(edition, bytes))
     }
 
@@ -43,7 +43,7 @@ impl L9 {
     {
         L9 {
             count: L9::COUNT.number(bytes),
-            gross: L9::GROSS.number(bytes),
+            sum: L9::SUM.number(bytes),
             nseq: L9::NSEQ.number(bytes),
         }
     }

@@ -1,6 +1,7 @@
 -- What the laws of cards need of a kind that has a card, one row for each such kind: all of it is computed from the kind's table.
 use Prim.Native.Nat.{ℕ, _+_}
 use mathlib.Core.Path.{_≡_}
+use mathlib.Core.Logic.{_⊎_}
 use mathlib.Core.List.{List, _∷_, _++_}
 use mathlib.Core.Bool.{true}
 use lib.Dec.{leb}
@@ -14,9 +15,9 @@ use Rattle.card_record.specs.declared.kind.Kind.{Kind}
 use Rattle.card_record.specs.CardPart.{cardFrom}
 use Rattle.card_record.specs.Reading.{widthOf, tableOf, rightReading}
 
--- two cards that reading does not tell apart: both are well formed, or both are not
+-- two cards that reading does not tell apart: both are well formed, or they are equal (a card that is not well formed may still be allowed, as blanks are)
 abbrev pub AlikeCards : List ℕ → List ℕ → Type 0
-AlikeCards p q = wellFormed p ≡ wellFormed q
+AlikeCards p q = ((wellFormed p ≡ true) × (wellFormed q ≡ true)) ⊎ (p ≡ q)
 
 -- a kind whose card begins at a place
 pub record CardRow (kind : Kind) (from : ℕ) : Type 0 where

@@ -14,12 +14,13 @@ use Rattle.refusal.proofs.Rules.{all-hold, none-broken, is-first, gives-first}
 use Rattle.text.proofs.Alphabets.{both-left}
 use Rattle.card_content.specs.Field.{tableRules, recordRules}
 use Rattle.card_sale.specs.Cv.{cvOf}
+use Rattle.card_adjustment.specs.Aj.{ajOf}
 use Rattle.card_frame.specs.A0.{a0Of}
 use Rattle.card_frame.specs.L0.{l0Of}
 use Rattle.card_frame.specs.L9.{l9Of}
 use Rattle.card_frame.specs.A9.{a9Of}
 use Rattle.card_record.specs.declared.kind.Kind.{Kind}
-use Rattle.card_record.specs.declared.kind.Kind.the-variants.{A0, L0, Cv, L9, A9}
+use Rattle.card_record.specs.declared.kind.Kind.the-variants.{A0, L0, Cv, Aj, L9, A9}
 use Rattle.card_record.specs.declared.kind.KindFound.{KindFound}
 use Rattle.card_record.specs.declared.kind.KindFound.the-variants.{Known, Unknown}
 use Rattle.card_record.specs.declared.reading.Reading.{Reading}
@@ -29,6 +30,7 @@ use Rattle.card_record.specs.declared.reading.Reading.the-variants.{
   A0 as a0,
   L0 as l0,
   Cv as cv,
+  Aj as aj,
   L9 as l9,
   A9 as a9,
 }
@@ -53,6 +55,7 @@ Says e r (faulty kind cause column) = Wrong kind e r cause column
 Says e r (a0 n) = Right A0 e r × (n ≡ a0Of r)
 Says e r (l0 n) = Right L0 e r × (n ≡ l0Of r)
 Says e r (cv n) = Right Cv e r × (n ≡ cvOf r)
+Says e r (aj n) = Right Aj e r × (n ≡ ajOf r)
 Says e r (l9 n) = Right L9 e r × (n ≡ l9Of r)
 Says e r (a9 n) = Right A9 e r × (n ≡ a9Of r)
 
@@ -67,6 +70,7 @@ unfolding rightReading
 numbers-say e r A0 right = (right, refl)
 numbers-say e r L0 right = (right, refl)
 numbers-say e r Cv right = (right, refl)
+numbers-say e r Aj right = (right, refl)
 numbers-say e r L9 right = (right, refl)
 numbers-say e r A9 right = (right, refl)
 
@@ -106,5 +110,6 @@ said e r (faulty kind cause column) wrong = known-reads e r kind (wrong .known) 
 said e r (a0 n) (right, h) = right-reads e r A0 right ∙ ap a0 (sym h)
 said e r (l0 n) (right, h) = right-reads e r L0 right ∙ ap l0 (sym h)
 said e r (cv n) (right, h) = right-reads e r Cv right ∙ ap cv (sym h)
+said e r (aj n) (right, h) = right-reads e r Aj right ∙ ap aj (sym h)
 said e r (l9 n) (right, h) = right-reads e r L9 right ∙ ap l9 (sym h)
 said e r (a9 n) (right, h) = right-reads e r A9 right ∙ ap a9 (sym h)

@@ -12,7 +12,7 @@ use Rattle.card_record.specs.declared.kind.KindFound.the-variants.{Known
 use Rattle.card_record.specs.Kind.{kindOf}
 use Rattle.card_record.specs.Reading.{widthOf, cardOf}
 
--- "It counts only in a record of kind CV, 199 wide": a record has its kind's card where it has its kind's width
+-- "It counts only in a record of kind CV, 199 wide", and "Hidden digits in demand 3 now include the AJ card": a record has its kind's card where it has its kind's width
 unfoldable pub cardPartFound : List ℕ → KindFound → CardPart
 cardPartFound r (Known kind) = cond (eqb (length r) (widthOf kind)) (cardOf kind) Nowhere
 cardPartFound r Unknown = Nowhere

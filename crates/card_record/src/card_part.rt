@@ -4,6 +4,7 @@ ghost use Rattle.card_record.specs.CardPart.{cardPart};
 ghost use Rattle.card_record.specs.Reading.{cardOf};
 use crate::kind::Kind;
 use crate::kind::KindFound;
+use card_adjustment::aj::Aj;
 use card_sale::cv::Cv;
 
 // The place, from 0, at which the card's 19 bytes begin, or that there is no card.
@@ -20,6 +21,7 @@ fn card_of(kind: Kind) -> CardPart
         Kind::A0 => CardPart::Nowhere,
         Kind::L0 => CardPart::Nowhere,
         Kind::Cv => CardPart::From(Cv::CARD.0 - 1),
+        Kind::Aj => CardPart::From(Aj::CARD.0 - 1),
         Kind::L9 => CardPart::Nowhere,
         Kind::A9 => CardPart::Nowhere,
     }

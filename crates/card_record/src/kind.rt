@@ -2,6 +2,7 @@
 ghost use mathlib.Core.Path.{_≡_};
 ghost use Rattle.card_record.specs.Kind.{kindOf};
 ghost use Rattle.card_record.specs.Reading.{widthOf};
+use card_adjustment::aj::Aj;
 use card_frame::a0::A0;
 use card_frame::a9::A9;
 use card_frame::l0::L0;
@@ -12,6 +13,7 @@ pub enum Kind {
     A0,
     L0,
     Cv,
+    Aj,
     L9,
     A9,
 }
@@ -25,6 +27,7 @@ impl Kind {
             Kind::A0 => A0::WIDTH,
             Kind::L0 => L0::WIDTH,
             Kind::Cv => Cv::WIDTH,
+            Kind::Aj => Aj::WIDTH,
             Kind::L9 => L9::WIDTH,
             Kind::A9 => A9::WIDTH,
         }
@@ -44,6 +47,9 @@ pub fn kind_of(bytes: &[u8]) -> KindFound
     let name = text::part::part_of(1, 2, bytes);
     if text::literal::equals(name, b"CV") {
         return KindFound::Known(Kind::Cv);
+    }
+    if text::literal::equals(name, b"AJ") {
+        return KindFound::Known(Kind::Aj);
     }
     if text::literal::equals(name, b"L0") {
         return KindFound::Known(Kind::L0);

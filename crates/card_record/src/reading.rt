@@ -3,6 +3,7 @@ ghost use mathlib.Core.Path.{_≡_};
 ghost use Rattle.card_record.specs.Reading.{judgedAs, readAs, readingOf};
 use crate::kind::Kind;
 use crate::kind::KindFound;
+use card_adjustment::aj::Aj;
 use card_frame::a0::A0;
 use card_frame::a9::A9;
 use card_frame::l0::L0;
@@ -20,6 +21,7 @@ pub enum Reading {
     A0(A0),
     L0(L0),
     Cv(Cv),
+    Aj(Aj),
     L9(L9),
     A9(A9),
 }
@@ -53,6 +55,11 @@ fn read_as(kind: Kind, edition: u64, bytes: &[u8]) -> Reading
             Kind::Cv,
             Cv::fault(edition, bytes),
             Reading::Cv(Cv::read(bytes)),
+        ),
+        Kind::Aj => judged(
+            Kind::Aj,
+            Aj::fault(edition, bytes),
+            Reading::Aj(Aj::read(bytes)),
         ),
         Kind::L9 => judged(
             Kind::L9,

@@ -39,9 +39,6 @@ twin-formed {s} {t} w e =
     with-digits _ s t e w
     (λ i k f. both-right (hiddenPlace t i) (digit (getD t i 0)) (both-right (hiddenDigit s i) (hiddenDigit t i) f))
 
-pub twins-formed : {s t : List ℕ} → Twins s t → wellFormed s ≡ wellFormed t
-twins-formed {s} w = by-test (wellFormed s) (λ e. e ∙ sym (twin-formed w e)) (λ e. ap wellFormed (twins-unformed w e))
-
 -- twins have the same hidden places
 twins-places : {s t : List ℕ} → Twins s t → hiddenPlaces s ≡ hiddenPlaces t
 twins-places {s} {t} w =

@@ -14,25 +14,10 @@ use Rattle.card_record.proofs.kind.kind_of.Tie as tie
 named : {found : KindFound} {name p : List ℕ} → name ≡ p → found ≡ kindNamed name → found ≡ kindNamed p
 named e h = h ∙ ap kindNamed e
 
-part-of-requires : tie.Need-part-of-requires
-part-of-requires c κs = search needs
-
-slice-aggregate-equals : tie.Need-slice-aggregate-equals
-slice-aggregate-equals c = search needs
-
-equals-requires : tie.Need-equals-requires
-equals-requires c κs = search needs
-
 returns : tie.Need-returns
 unfolding kindNamed
 returns c =
     named (c .before .before .before .part-of .ensures .holds) (rw (told (c .before .equals .ensures) (c .if1 .taken)))
-
-slice-aggregate-equals-2 : tie.Need-slice-aggregate-equals-2
-slice-aggregate-equals-2 c = search needs
-
-equals-requires-2 : tie.Need-equals-requires-2
-equals-requires-2 c κs = search needs
 
 returns-2 : tie.Need-returns-2
 unfolding kindNamed
@@ -43,12 +28,6 @@ returns-2 c =
       told (c1 .before .equals .ensures) (c1 .if1 .left),
       told (c .before .equals2 .ensures) (c .if2 .taken),
     ))
-
-slice-aggregate-equals-3 : tie.Need-slice-aggregate-equals-3
-slice-aggregate-equals-3 c = search needs
-
-equals-requires-3 : tie.Need-equals-requires-3
-equals-requires-3 c κs = search needs
 
 returns-3 : tie.Need-returns-3
 unfolding kindNamed
@@ -61,12 +40,6 @@ returns-3 c =
       told (c2 .before .equals2 .ensures) (c2 .if2 .left),
       told (c .before .equals3 .ensures) (c .if3 .taken),
     ))
-
-slice-aggregate-equals-4 : tie.Need-slice-aggregate-equals-4
-slice-aggregate-equals-4 c = search needs
-
-equals-requires-4 : tie.Need-equals-requires-4
-equals-requires-4 c κs = search needs
 
 returns-4 : tie.Need-returns-4
 unfolding kindNamed
@@ -81,12 +54,6 @@ returns-4 c =
       told (c3 .before .equals3 .ensures) (c3 .if3 .left),
       told (c .before .equals4 .ensures) (c .if4 .taken),
     ))
-
-slice-aggregate-equals-5 : tie.Need-slice-aggregate-equals-5
-slice-aggregate-equals-5 c = search needs
-
-equals-requires-5 : tie.Need-equals-requires-5
-equals-requires-5 c κs = search needs
 
 returns-5 : tie.Need-returns-5
 unfolding kindNamed
@@ -107,7 +74,8 @@ returns-5 c =
 returns-6 : tie.Need-returns-6
 unfolding kindNamed
 returns-6 c =
-    let c4 = c .before .before .before in
+    let c5 = c .before .before .before in
+    let c4 = c5 .before .before .before in
     let c3 = c4 .before .before .before in
     let c2 = c3 .before .before .before in
     let c1 = c2 .before .before .before in
@@ -117,27 +85,49 @@ returns-6 c =
       told (c2 .before .equals2 .ensures) (c2 .if2 .left),
       told (c3 .before .equals3 .ensures) (c3 .if3 .left),
       told (c4 .before .equals4 .ensures) (c4 .if4 .left),
-      told (c .before .equals5 .ensures) (c .if5 .left),
+      told (c5 .before .equals5 .ensures) (c5 .if5 .left),
+      told (c .before .equals6 .ensures) (c .if6 .taken),
+    ))
+
+returns-7 : tie.Need-returns-7
+unfolding kindNamed
+returns-7 c =
+    let c5 = c .before .before .before in
+    let c4 = c5 .before .before .before in
+    let c3 = c4 .before .before .before in
+    let c2 = c3 .before .before .before in
+    let c1 = c2 .before .before .before in
+    named (c1 .before .before .before .part-of .ensures .holds)
+    (rw (
+      told (c1 .before .equals .ensures) (c1 .if1 .left),
+      told (c2 .before .equals2 .ensures) (c2 .if2 .left),
+      told (c3 .before .equals3 .ensures) (c3 .if3 .left),
+      told (c4 .before .equals4 .ensures) (c4 .if4 .left),
+      told (c5 .before .equals5 .ensures) (c5 .if5 .left),
+      told (c .before .equals6 .ensures) (c .if6 .left),
     ))
 
 pub kind-of-spec : {M : Type 1} → statement M
 kind-of-spec =
     tie.close
     (tie.spec
-    part-of-requires
-    slice-aggregate-equals
-    equals-requires
+    (λ c κs. search needs)
+    (λ c. search needs)
+    (λ c κs. search needs)
     returns
-    slice-aggregate-equals-2
-    equals-requires-2
+    (λ c. search needs)
+    (λ c κs. search needs)
     returns-2
-    slice-aggregate-equals-3
-    equals-requires-3
+    (λ c. search needs)
+    (λ c κs. search needs)
     returns-3
-    slice-aggregate-equals-4
-    equals-requires-4
+    (λ c. search needs)
+    (λ c κs. search needs)
     returns-4
-    slice-aggregate-equals-5
-    equals-requires-5
+    (λ c. search needs)
+    (λ c κs. search needs)
     returns-5
-    returns-6)
+    (λ c. search needs)
+    (λ c κs. search needs)
+    returns-6
+    returns-7)
