@@ -4,26 +4,34 @@ use mathlib.Core.Bool.{cond}
 use Rattle.refusal.specs.declared.Cause.{Cause}
 use Rattle.refusal.specs.declared.Cause.the-variants.{EditionUnknown, EndsTooEarly, BytesAfterTheEnd}
 use Rattle.refusal.specs.Nowhere.{nowhere}
+use Rattle.totals.specs.declared.amounts.Totals.{Totals}
 use Rattle.totals.specs.Sum.{capped}
 use Rattle.totals.specs.Amounts.{noTotals}
 use Rattle.edition.specs.Known.{known}
 use Rattle.card_run.specs.declared.stage.Stage.{Stage}
 use Rattle.card_run.specs.declared.stage.Stage.the-variants.{Start, BetweenBatches, InBatch, Ended, Closed, Refused}
+use Rattle.card_run.specs.declared.adjusted.Adjusted.{Adjusted}
 use Rattle.card_run.specs.declared.answer.Accepted.{Accepted}
 use Rattle.card_run.specs.declared.batch.OpenBatch.{OpenBatch}
 use Rattle.card_run.specs.declared.running.Running.{Running}
-use Rattle.card_run.specs.Batch.{noSale}
+use Rattle.card_run.specs.Adjusted.{noAdjustment}
+use Rattle.card_run.specs.Batch.{noTransaction}
 
 -- "A bad edition is refused, 1, from the start"
 abbrev pub openStage : ℕ → Stage
 openStage edition = cond (known edition) Start (Refused (nowhere EditionUnknown))
 
+-- the numbers of a file, in the answer's order
+abbrev pub numbersOf : ℕ → ℕ → ℕ → ℕ → Totals → Adjusted → Adjusted → Accepted
+numbersOf date movement records batches totals credits debits =
+    record { date = date; movement = movement; records = records; batches = batches; totals = totals; credits = credits; debits = debits }
+
 -- nothing has come
 abbrev pub noNumbers : Accepted
-noNumbers = record { date = 0; movement = 0; records = 0; batches = 0; totals = noTotals }
+noNumbers = numbersOf 0 0 0 0 noTotals noAdjustment noAdjustment
 
 abbrev pub openOf : ℕ → Running
-openOf edition = record { stage = openStage edition; edition = edition; numbers = noNumbers; batch = noSale }
+openOf edition = record { stage = openStage edition; edition = edition; numbers = noNumbers; batch = noTransaction }
 
 -- the number of the record that comes next; it stays at the top of 64 bits
 abbrev pub nextNumber : Running → ℕ

@@ -1,7 +1,7 @@
--- "The order is A0, any number of batches, A9; a batch is L0, any number of CV, L9. Both numbers may be zero."
+-- "The order is A0, any number of batches, A9; a batch is L0, any number of CV, L9. Both numbers may be zero."; "An AJ may stand wherever a CV may"
 use mathlib.Core.Bool.{Bool, true, false}
 use Rattle.card_record.specs.declared.kind.Kind.{Kind}
-use Rattle.card_record.specs.declared.kind.Kind.the-variants.{A0, L0, Cv, L9, A9}
+use Rattle.card_record.specs.declared.kind.Kind.the-variants.{A0, L0, Cv, Aj, L9, A9}
 use Rattle.card_run.specs.declared.stage.Stage.{Stage}
 use Rattle.card_run.specs.declared.stage.Stage.the-variants.{Start, BetweenBatches, InBatch, Ended, Closed, Refused}
 
@@ -10,6 +10,7 @@ abbrev pub first : Kind → Bool
 first A0 = true
 first L0 = false
 first Cv = false
+first Aj = false
 first L9 = false
 first A9 = false
 
@@ -17,6 +18,7 @@ abbrev pub betweenBatches : Kind → Bool
 betweenBatches A0 = false
 betweenBatches L0 = true
 betweenBatches Cv = false
+betweenBatches Aj = false
 betweenBatches L9 = false
 betweenBatches A9 = true
 
@@ -24,6 +26,7 @@ abbrev pub inBatch : Kind → Bool
 inBatch A0 = false
 inBatch L0 = false
 inBatch Cv = true
+inBatch Aj = true
 inBatch L9 = true
 inBatch A9 = false
 

@@ -1,4 +1,5 @@
 // The answer of a card file.
+use crate::adjusted::Adjusted;
 use refusal::Refusal;
 use totals::amounts::Totals;
 
@@ -9,6 +10,8 @@ pub struct Accepted {
     pub records: u64,
     pub batches: u64,
     pub totals: Totals,
+    pub credits: Adjusted,
+    pub debits: Adjusted,
 }
 
 pub enum CardAnswer {

@@ -10,6 +10,7 @@ ghost use Rattle.card_run.specs.Running.{
   lateOf,
   closedOf,
 };
+use crate::adjusted::Adjusted;
 use crate::answer::Accepted;
 use crate::answer::CardAnswer;
 use crate::batch::OpenBatch;
@@ -50,6 +51,8 @@ impl Running {
                 records: 0,
                 batches: 0,
                 totals: Totals::none(),
+                credits: Adjusted::none(),
+                debits: Adjusted::none(),
             },
             batch: OpenBatch::none(),
         }

@@ -9,7 +9,7 @@ pub enum Stage {
     Start,
     // A0 or an L9 came last.
     BetweenBatches,
-    // L0 or a CV came last.
+    // L0, a CV or an AJ came last.
     InBatch,
     // A9 has come.
     Ended,
@@ -42,6 +42,7 @@ impl Stage {
                 Kind::A0 => true,
                 Kind::L0 => false,
                 Kind::Cv => false,
+                Kind::Aj => false,
                 Kind::L9 => false,
                 Kind::A9 => false,
             },
@@ -49,6 +50,7 @@ impl Stage {
                 Kind::A0 => false,
                 Kind::L0 => true,
                 Kind::Cv => false,
+                Kind::Aj => false,
                 Kind::L9 => false,
                 Kind::A9 => true,
             },
@@ -56,6 +58,7 @@ impl Stage {
                 Kind::A0 => false,
                 Kind::L0 => false,
                 Kind::Cv => true,
+                Kind::Aj => true,
                 Kind::L9 => true,
                 Kind::A9 => false,
             },

@@ -4,14 +4,18 @@ ghost use Rattle.card_step.specs.Behind.{
   counted,
   headed,
   sold,
+  credited,
+  debited,
   oneBatchMore,
   behindA0,
   behindL0,
   behindSale,
+  behindAdjustment,
   behindL9,
   behindA9,
   behind,
 };
+use card_adjustment::aj::Aj;
 use card_frame::a0::A0;
 use card_record::reading::Reading;
 use card_run::answer::Accepted;
@@ -51,6 +55,28 @@ fn sold(numbers: Accepted, sale: Totals) -> Accepted
     next
 }
 
+// With one credit more.
+fn credited(numbers: Accepted, net: u64) -> Accepted
+    ensures { λ r. ⌜ r ≡ credited net numbers ⌝ }
+{
+    let credits = numbers.credits;
+    let credits_now = credits.one_more(net);
+    let mut next = numbers;
+    next.credits = credits_now;
+    next
+}
+
+// With one debit more.
+fn debited(numbers: Accepted, net: u64) -> Accepted
+    ensures { λ r. ⌜ r ≡ debited net numbers ⌝ }
+{
+    let debits = numbers.debits;
+    let debits_now = debits.one_more(net);
+    let mut next = numbers;
+    next.debits = debits_now;
+    next
+}
+
 // With one batch more.
 fn one_batch_more(numbers: Accepted) -> Accepted
     ensures { λ r. ⌜ r ≡ oneBatchMore numbers ⌝ }
@@ -69,7 +95,7 @@ fn behind_a0(state: Running, a0: A0) -> Running
     state.moved(Stage::BetweenBatches, headed(counted(numbers), a0), batch)
 }
 
-// Behind L0: a batch of no sale.
+// Behind L0: a batch of no transaction.
 fn behind_l0(state: Running) -> Running
     ensures { λ r. ⌜ r ≡ behindL0 state ⌝ }
 {
@@ -87,7 +113,28 @@ fn behind_sale(state: Running, cv: Cv) -> Running
     state.moved(
         Stage::InBatch,
         sold(counted(numbers), Totals::of_sale(payable)),
-        batch.sold(payable.gross),
+        batch.with_added(payable.gross),
+    )
+}
+
+// Behind an adjustment: one credit more, which the batch adds, or one debit more, which it takes.
+fn behind_adjustment(state: Running, aj: Aj) -> Running
+    ensures { λ r. ⌜ r ≡ behindAdjustment aj state ⌝ }
+{
+    let amounts = aj.amounts;
+    let numbers = state.numbers;
+    let batch = state.batch;
+    if aj.is_credit() {
+        return state.moved(
+            Stage::InBatch,
+            credited(counted(numbers), amounts.net),
+            batch.with_added(amounts.net),
+        );
+    }
+    state.moved(
+        Stage::InBatch,
+        debited(counted(numbers), amounts.net),
+        batch.with_taken(amounts.net),
     )
 }
 
@@ -123,6 +170,7 @@ pub(crate) fn behind(state: Running, reading: Reading) -> Running
         Reading::A0(a0) => behind_a0(state, a0),
         Reading::L0(_) => behind_l0(state),
         Reading::Cv(cv) => behind_sale(state, cv),
+        Reading::Aj(aj) => behind_adjustment(state, aj),
         Reading::L9(_) => behind_l9(state),
         Reading::A9(_) => behind_a9(state),
     }

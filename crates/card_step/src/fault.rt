@@ -3,6 +3,7 @@ ghost use mathlib.Core.Path.{_≡_};
 ghost use mathlib.Core.List.{[], _∷_};
 ghost use Rattle.refusal.specs.Rules.{firstBroken};
 ghost use Rattle.card_step.specs.Rules.{placeRule, nseqRule, rulesOf};
+use card_adjustment::aj::Aj;
 use card_content::field::Field;
 use card_frame::a0::A0;
 use card_frame::a9::A9;
@@ -37,14 +38,21 @@ fn sale_fault(state: Running, cv: Cv) -> Fault
     front_fault(state, Kind::Cv, Cv::NSEQ, cv.nseq).earlier(cv.joined_fault())
 }
 
+// Of an adjustment likewise.
+fn adjustment_fault(state: Running, aj: Aj) -> Fault
+    ensures { λ r. ⌜ r ≡ firstBroken (rulesOf state (Reading.Aj aj)) ⌝ }
+{
+    front_fault(state, Kind::Aj, Aj::NSEQ, aj.nseq).earlier(aj.joined_fault())
+}
+
 // Of a batch trailer, then what it counts and sums.
 fn l9_fault(state: Running, l9: L9) -> Fault
     ensures { λ r. ⌜ r ≡ firstBroken (rulesOf state (Reading.L9 l9)) ⌝ }
 {
     let batch = state.batch;
     front_fault(state, Kind::L9, L9::NSEQ, l9.nseq)
-        .earlier(L9::COUNT.rule(Cause::TrailerDisagrees, l9.count == batch.sales))
-        .earlier(L9::GROSS.rule(Cause::TrailerDisagrees, l9.gross == batch.gross))
+        .earlier(L9::COUNT.rule(Cause::TrailerDisagrees, l9.count == batch.transactions))
+        .earlier(L9::SUM.rule(Cause::TrailerDisagrees, batch.sums_to(l9.sum)))
 }
 
 // Of the file trailer, then what it counts, itself included.
@@ -69,6 +77,7 @@ pub(crate) fn fault(state: Running, reading: Reading) -> Fault
         Reading::A0(a0) => front_fault(state, Kind::A0, A0::NSEQ, a0.nseq),
         Reading::L0(l0) => front_fault(state, Kind::L0, L0::NSEQ, l0.nseq),
         Reading::Cv(cv) => sale_fault(state, cv),
+        Reading::Aj(aj) => adjustment_fault(state, aj),
         Reading::L9(l9) => l9_fault(state, l9),
         Reading::A9(a9) => a9_fault(state, a9),
     }

@@ -3,7 +3,7 @@ use Rattle.card_step.proofs.behind.behind_sale.Statement.{statement}
 use Rattle.card_step.proofs.behind.behind_sale.Tie as tie
 
 returns : tie.Need-returns
-returns c = rw (c .moved .ensures, c .before .sold2 .ensures, c .before .before .sold .ensures, c .before .before .before .of-sale .ensures, c .before .before .before .before .counted .ensures, c .before .before .before .before .before .before .before .payable-amounts .ensures)
+returns c = rw (c .moved .ensures, c .before .with-added .ensures, c .before .before .sold .ensures, c .before .before .before .of-sale .ensures, c .before .before .before .before .counted .ensures, c .before .before .before .before .before .before .before .payable-amounts .ensures)
 
 pub behind-sale-spec : {M : Type 1} → statement M
 behind-sale-spec = tie.close (tie.spec (λ c κs. tt) (λ c κs. tt) (λ c κs. tt) (λ c κs. tt) (λ c κs. tt) (λ c κs. tt) returns)

@@ -18,7 +18,7 @@ returns c =
     next (c .earlier .ensures)
     (one-rule TrailerDisagrees 3 (c .before .rule .ensures) (ap (eqb (a .a9 .count)) (c .before .before .before .next-number .ensures)))
     (c .before .before .before .before .front-fault .ensures) ∙
-    row-by-row (front ∷ (trailerRule 3 (a .a9 .count) (nextNumber (a .state)) ∷ []) ∷ [])
+    row-by-row (front ∷ (trailerRule 3 (eqb (a .a9 .count) (nextNumber (a .state))) ∷ []) ∷ [])
 
 pub a9-fault-spec : {M : Type 1} → statement M
 a9-fault-spec = tie.close (tie.spec (λ c κs. tt) (λ c κs. tt) (λ c κs. tt) (λ c κs. tt) returns)

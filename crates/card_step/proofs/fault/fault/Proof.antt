@@ -40,10 +40,13 @@ returns-5 : tie.Need-returns-5
 returns-5 c = arm _ (c .sale-fault .ensures) (c .before .before .reading4 .given .1)
 
 returns-6 : tie.Need-returns-6
-returns-6 c = arm _ (c .l9-fault .ensures) (c .before .before .reading5 .given .1)
+returns-6 c = arm _ (c .adjustment-fault .ensures) (c .before .before .reading5 .given .1)
 
 returns-7 : tie.Need-returns-7
-returns-7 c = arm _ (c .a9-fault .ensures) (c .before .before .reading6 .given .1)
+returns-7 c = arm _ (c .l9-fault .ensures) (c .before .before .reading6 .given .1)
+
+returns-8 : tie.Need-returns-8
+returns-8 c = arm _ (c .a9-fault .ensures) (c .before .before .reading7 .given .1)
 
 pub fault-spec : {M : Type 1} → statement M
 fault-spec =
@@ -63,10 +66,13 @@ fault-spec =
     (λ c κs. tt)
     (λ c. search needs)
     (λ c κs. tt)
+    (λ c. search needs)
+    (λ c κs. tt)
     returns
     returns-2
     returns-3
     returns-4
     returns-5
     returns-6
-    returns-7)
+    returns-7
+    returns-8)
