@@ -5,7 +5,6 @@ use mathlib.Core.List.{List, [], _∷_, _++_}
 use mathlib.Core.Bool.{true}
 use native.Mathlib.Omega.{arith}
 use lib.ListN.{length, length-append}
-use Rattle.totals.specs.Amounts.{noTotals}
 use Rattle.edition.specs.Known.{known}
 use Rattle.totals.proofs.Totals.{figure-of-none}
 use Rattle.card_record.specs.declared.kind.Kind.the-variants.{A0, A9}
@@ -14,16 +13,17 @@ use Rattle.card_run.specs.declared.running.Running.{Running}
 use Rattle.card_run.specs.declared.answer.Accepted.{Accepted}
 use Rattle.card_run.specs.declared.answer.CardAnswer.the-variants.{Accepted as accepted}
 use Rattle.card_run.specs.Stage.{placed}
-use Rattle.card_run.specs.Batch.{noSale}
+use Rattle.card_run.specs.Batch.{noTransaction}
 use Rattle.card_run.specs.Running.{openOf, openStage, moved, closedAt, closedOf}
 use Rattle.card_file.specs.Feeding.{fedOf, fedAll}
 use Rattle.card_run.specs.Answer.{answerAt, answerOf}
 use Rattle.card_file.specs.CardFile.{endOf, ranOf, checkOf}
 use Rattle.card_kept.specs.Fields.{numberAt}
 use Rattle.card_kept.specs.Records.{A9Kept}
-use Rattle.card_kept.specs.Kept.{File, batchesRecords, recordsOf, FileKept, Kept, salesOf}
-use Rattle.card_kept.proofs.PlainTotals.{totalsOf, plus, none-plus}
-use Rattle.card_kept.proofs.PlainSteps.{at, same-at, behindPlain, Small, still-small, step}
+use Rattle.card_kept.specs.Kept.{File, batchesRecords, recordsOf, FileKept, Kept, transactionsOf, salesOf, creditsOf, debitsOf}
+use Rattle.card_kept.proofs.PlainTotals.{totalsOf, none-plus}
+use Rattle.card_kept.proofs.Transactions.{adjustedOf, same-adjusted}
+use Rattle.card_kept.proofs.PlainSteps.{same-at, after, behindPlain, Small, still-small, step}
 use Rattle.card_kept.proofs.OneLine.{file-cut}
 use Rattle.card_kept.proofs.Batches.{fed-row, lines-are, Comes, comes, lastBatch, batches-taken}
 
@@ -37,7 +37,10 @@ open-small e =
       records = omega arith;
       batches = omega arith;
       totals = λ f. omega (arith, figure-of-none f);
-      batch = record { sales = omega arith; gross = omega arith };
+      credits = record { count = omega arith; net = omega arith };
+      debits = record { count = omega arith; net = omega arith };
+      added = omega arith;
+      batch = record { transactions = omega arith; added = omega arith; taken = omega arith };
     }
 
 -- the numbers of an answer
@@ -49,11 +52,13 @@ plainNumbers f =
       records = length (recordsOf f);
       batches = length (f .batches);
       totals = totalsOf (salesOf f);
+      credits = adjustedOf (creditsOf f);
+      debits = adjustedOf (debitsOf f);
     }
 
 -- the state that the records of a file lead to
 abbrev pub ended : ℕ → File → Running
-ended e f = moved Ended (plainNumbers f) (lastBatch noSale (f .batches)) (openOf e)
+ended e f = moved Ended (plainNumbers f) (lastBatch noTransaction (f .batches)) (openOf e)
 
 pub file-taken : (e : ℕ) (f : File) → known e ≡ true → FileKept e f → Comes (fedAll (openOf e) (recordsOf f)) (ended e f)
 unfolding fedAll
@@ -62,12 +67,13 @@ file-taken e f is-known k =
     let begun = behindPlain A0 start (f .a0) in
     let first = step start (f .a0) (open-small e) A0 (ap (λ s. placed s A0) (opens e is-known)) (k .a0) in
     let batches = batches-taken (f .batches) begun (still-small start (f .a0) (open-small e) A0 (k .a0)) refl (k .batches) in
-    let full = at begun BetweenBatches (1 + length (batchesRecords (f .batches))) (0 + length (f .batches)) (plus noTotals (totalsOf (salesOf f)))
-    (lastBatch noSale (f .batches)) in
+    let full = after begun BetweenBatches (1 + length (batchesRecords (f .batches))) (0 + length (f .batches)) (transactionsOf f) (lastBatch noTransaction (f .batches)) in
     let number : 2 + length (batchesRecords (f .batches)) ≡ suc (1 + length (batchesRecords (f .batches))) = omega arith in
     let trailer = subst (λ n. A9Kept e n (f .a9)) number (k .a9) in
     let last = step full (f .a9) (batches .small) A9 refl trailer in
-    comes (same-at begun refl (omega (arith, length-append (batchesRecords (f .batches)) (f .a9 ∷ []))) (omega arith) (none-plus (totalsOf (salesOf f))) refl)
+    comes
+    (same-at begun refl (omega (arith, length-append (batchesRecords (f .batches)) (f .a9 ∷ []))) (omega arith) (none-plus (totalsOf (salesOf f)))
+    (same-adjusted (omega arith) (omega arith)) (same-adjusted (omega arith) (omega arith)) refl)
     (record {
       is =
           ap (λ s. fedAll s (batchesRecords (f .batches) ++ (f .a9 ∷ []))) first ∙ fed-row begun (batchesRecords (f .batches)) (f .a9 ∷ []) ∙

@@ -11,7 +11,7 @@ use Rattle.refusal.specs.Fault.{ruleOf, earlierOf}
 use Rattle.refusal.specs.Rules.{ruleAt, firstBroken}
 use Rattle.refusal.proofs.Rules.{in-a-row}
 use Rattle.card_record.specs.declared.kind.Kind.{Kind}
-use Rattle.card_record.specs.declared.kind.Kind.the-variants.{A0, L0, Cv, L9, A9}
+use Rattle.card_record.specs.declared.kind.Kind.the-variants.{A0, L0, Cv, Aj, L9, A9}
 use Rattle.card_record.specs.declared.kind.KindFound.{KindFound}
 use Rattle.card_record.specs.declared.kind.KindFound.the-variants.{Known, Unknown}
 use Rattle.card_record.specs.Kind.{kindOf}
@@ -39,6 +39,7 @@ module _ (st : Running) (r : List ℕ) where
   judged A0 Nothing = refl
   judged L0 Nothing = refl
   judged Cv Nothing = refl
+  judged Aj Nothing = refl
   judged L9 Nothing = refl
   judged A9 Nothing = refl
   judged kind (At cause column) = refl

@@ -2,8 +2,9 @@
 -- that a day has 8 positions, a time 6, and that each field lies in the record is a test, computed over the table.
 use Prim.Native.Nat.{ℕ, _-_, _≤_}
 use mathlib.Core.Path.{_≡_, refl, sym, _∙_, ap}
+use mathlib.Core.Logic.{_⊎_, inl, inr, ⊎-elim}
 use mathlib.Core.List.{List, [], _∷_, _++_}
-use mathlib.Core.Bool.{Bool, true, false, _&&_, false≢true}
+use mathlib.Core.Bool.{Bool, true, false, cond, _&&_, _||_, false≢true, or-true}
 use native.Mathlib.Omega.{arith}
 use lib.ListN.{length, take, length-take, length-drop}
 use lib.Dec.{leb, eqb}
@@ -11,9 +12,12 @@ use borrow.Author.Tests.{eqb-true, leb-true, le-leb}
 use Rattle.refusal.specs.Rules.{Rule, allHold}
 use Rattle.text.specs.declared.alphabet.Alphabet.the-variants.{Digits as digits}
 use Rattle.text.specs.Alphabet.{holdsOnly}
+use Rattle.text.specs.Literal.{sameBytes}
 use Rattle.text.specs.Number.{valueOf}
 use Rattle.text.specs.Part.{positions}
 use Rattle.text.proofs.Alphabets.{both, both-left, both-right}
+use Rattle.text.proofs.Literals.{same-equal, equal-same}
+use Rattle.pan.specs.CardField.{wellFormed}
 use Rattle.calendar.specs.declared.when.When.{When}
 use Rattle.calendar.specs.declared.when.When.the-variants.{NotDigits, NoSuch, At}
 use Rattle.calendar.specs.When.{whenRules}
@@ -21,9 +25,9 @@ use Rattle.calendar.specs.Day.{isDay, yearFirst}
 use Rattle.calendar.specs.Time.{isTime, timeOf}
 use Rattle.calendar.proofs.Whens.{Means, year-first, time-of}
 use Rattle.card_content.specs.declared.content.Content.{Content}
-use Rattle.card_content.specs.declared.content.Content.the-variants.{Digits, Text, Day, Time, Card, OneOf}
+use Rattle.card_content.specs.declared.content.Content.the-variants.{Digits, Text, Day, DayOrZeros, Time, Card, CardOrBlanks, OneOf}
 use Rattle.card_content.specs.declared.field.Field.{Field}
-use Rattle.card_content.specs.Content.{contentRules}
+use Rattle.card_content.specs.Content.{noDay, dayOrZerosRules, noCard, cardOrBlanksRules, contentRules}
 use Rattle.card_content.specs.Field.{fieldRules, tableRules, numberIn}
 use Rattle.card_kept.specs.Fields.{ContentKept, FieldsKept, numberAt}
 
@@ -57,13 +61,57 @@ module _ (column width : ℕ) (test : ℕ → Bool) (p : List ℕ) where
   unfolding allHold whenRules
   when-kept m wide d real = rw (m .at-if (valueOf p) (record { digits = d; wide = wide; number = refl; real = real }))
 
+-- a day that may be zeros: its rules hold where it is, or where a day's do
+module _ (column : ℕ) (p : List ℕ) where
+  abbrev zeros : Bool
+  zeros = sameBytes p noDay
+
+  day-or-zeros-holds : allHold (dayOrZerosRules column p) ≡ true → (p ≡ noDay) ⊎ ((holdsOnly digits p ≡ true) × (isDay (valueOf p) ≡ true))
+  unfolding dayOrZerosRules
+  day-or-zeros-holds = by zeros refl
+    where
+      by : (z : Bool) → zeros ≡ z → allHold (cond z [] (whenRules column (yearFirst p))) ≡ true →
+          (p ≡ noDay) ⊎ ((holdsOnly digits p ≡ true) × (isDay (valueOf p) ≡ true))
+      by true e h = inl (same-equal p noDay e)
+      by false e h = inr (when-holds column 8 isDay p (yearFirst p) (year-first p) h)
+
+  day-or-zeros-kept : length p ≡ 8 → (p ≡ noDay) ⊎ ((holdsOnly digits p ≡ true) × (isDay (valueOf p) ≡ true)) →
+      allHold (dayOrZerosRules column p) ≡ true
+  unfolding dayOrZerosRules allHold
+  day-or-zeros-kept wide (inl e) = rw (equal-same p noDay e)
+  day-or-zeros-kept wide (inr (d, real)) = by zeros
+    where
+      by : (z : Bool) → allHold (cond z [] (whenRules column (yearFirst p))) ≡ true
+      by true = refl
+      by false = when-kept column 8 isDay p (year-first p) wide d real
+
+-- a card that may be blanks likewise
+either : (a b : Bool) → a || b ≡ true → (a ≡ true) ⊎ (b ≡ true)
+either true b e = inl refl
+either false b e = inr e
+
+module _ (column : ℕ) (p : List ℕ) where
+  abbrev blanks : Bool
+  blanks = sameBytes p noCard
+
+  card-or-blanks-holds : allHold (cardOrBlanksRules column p) ≡ true → (p ≡ noCard) ⊎ (wellFormed p ≡ true)
+  unfolding cardOrBlanksRules allHold
+  card-or-blanks-holds h = ⊎-elim (λ e. inl (same-equal p noCard e)) inr (either blanks (wellFormed p) (one-holds _ h))
+
+  card-or-blanks-kept : (p ≡ noCard) ⊎ (wellFormed p ≡ true) → allHold (cardOrBlanksRules column p) ≡ true
+  unfolding cardOrBlanksRules allHold
+  card-or-blanks-kept (inl e) = rw (equal-same p noCard e)
+  card-or-blanks-kept (inr formed) = rw (formed, or-true)
+
 -- how many positions a content asks for
 abbrev sized : Content → ℕ → Bool
 sized Digits n = true
 sized Text n = true
 sized Day n = eqb n 8
+sized DayOrZeros n = eqb n 8
 sized Time n = eqb n 6
 sized Card n = true
+sized CardOrBlanks n = true
 sized (OneOf set) n = true
 
 -- the rules of a content hold exactly where it is kept
@@ -72,8 +120,10 @@ unfolding allHold contentRules
 content-holds Digits edition column p h = one-holds _ h
 content-holds Text edition column p h = one-holds _ h
 content-holds Day edition column p h = when-holds column 8 isDay p (yearFirst p) (year-first p) h
+content-holds DayOrZeros edition column p h = day-or-zeros-holds column p h
 content-holds Time edition column p h = when-holds column 6 isTime p (timeOf p) (time-of p) h
 content-holds Card edition column p h = one-holds _ h
+content-holds CardOrBlanks edition column p h = card-or-blanks-holds column p h
 content-holds (OneOf set) edition column p h = one-holds _ h
 
 content-kept : (c : Content) (edition column : ℕ) (p : List ℕ) → sized c (length p) ≡ true → ContentKept c edition p →
@@ -82,8 +132,10 @@ unfolding allHold contentRules
 content-kept Digits edition column p s k = both k refl
 content-kept Text edition column p s k = both k refl
 content-kept Day edition column p s (d, real) = when-kept column 8 isDay p (year-first p) (eqb-true _ _ s) d real
+content-kept DayOrZeros edition column p s k = day-or-zeros-kept column p (eqb-true _ _ s) k
 content-kept Time edition column p s (d, real) = when-kept column 6 isTime p (time-of p) (eqb-true _ _ s) d real
 content-kept Card edition column p s k = both k refl
+content-kept CardOrBlanks edition column p s k = card-or-blanks-kept column p k
 content-kept (OneOf set) edition column p s k = both k refl
 
 -- the length of a part that lies in the record

@@ -11,7 +11,7 @@ use Rattle.lines.specs.Lines.{noLf, allNoLf, withCr, rejoined, cut}
 use Rattle.lines.proofs.Cuts.{cut-is-cut, records-are-pieces, with-cr-clear}
 use Rattle.edition.specs.Known.{known}
 use Rattle.card_record.specs.declared.kind.Kind.{Kind}
-use Rattle.card_record.specs.declared.kind.Kind.the-variants.{A0, L0, Cv, L9, A9}
+use Rattle.card_record.specs.declared.kind.Kind.the-variants.{A0, L0, Cv, Aj, L9, A9}
 use Rattle.card_run.specs.declared.stage.Stage.{Stage}
 use Rattle.card_run.specs.declared.stage.Stage.the-variants.{Start, Refused}
 use Rattle.card_run.specs.declared.answer.Accepted.{Accepted}
@@ -59,6 +59,7 @@ begins e r ps rest A0 p k others =
     }
 begins e r ps rest L0 p k others = absurd (false≢true p)
 begins e r ps rest Cv p k others = absurd (false≢true p)
+begins e r ps rest Aj p k others = absurd (false≢true p)
 begins e r ps rest L9 p k others = absurd (false≢true p)
 begins e r ps rest A9 p k others = absurd (false≢true p)
 

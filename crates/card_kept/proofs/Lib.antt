@@ -1,9 +1,11 @@
 pub mod FieldsKept
 pub mod RecordsKept
 pub mod Sales
+pub mod Adjustments
 pub mod Next
 pub mod Steps
 pub mod PlainTotals
+pub mod Transactions
 pub mod PlainSteps
 pub mod OneLine
 pub mod Batches

@@ -1,6 +1,6 @@
 -- A record that keeps the rules as the next one of a run: exactly one that is right for its kind, in one line, and whose joined rules hold there.
 -- A law for a number that stands in a field, and then kind by kind.
-use Prim.Native.Nat.{ℕ, suc, _-_, _^_, _<_}
+use Prim.Native.Nat.{ℕ, suc, _+_, _-_, _^_, _<_}
 use mathlib.Core.Path.{_≡_, refl, sym, _∙_, ap, subst}
 use mathlib.Core.List.{List}
 use mathlib.Core.Bool.{true, _&&_}
@@ -18,24 +18,26 @@ use Rattle.card_content.specs.Field.{field, numberIn}
 use Rattle.card_content.proofs.Ranges.{number-below}
 use Rattle.card_sale.specs.Cv.{joinedRules}
 use Rattle.card_record.specs.declared.kind.Kind.{Kind}
-use Rattle.card_record.specs.declared.kind.Kind.the-variants.{A0, L0, Cv, L9, A9}
+use Rattle.card_record.specs.declared.kind.Kind.the-variants.{A0, L0, Cv, Aj, L9, A9}
 use Rattle.card_record.specs.Reading.{widthOf, tableOf, rightReading}
 use Rattle.card_record.proofs.Readings.{Right}
 use Rattle.card_run.specs.declared.running.Running.{Running}
 use Rattle.card_run.specs.Running.{nextNumber}
 use Rattle.card_step.specs.Rules.{joinedAt}
 use Rattle.card_kept.specs.Fields.{FieldsKept, numberAt}
-use Rattle.card_kept.specs.Records.{RecordOf, A0Kept, L0Kept, CvKept, L9Kept, A9Kept}
+use Rattle.card_kept.specs.Records.{RecordOf, A0Kept, L0Kept, CvKept, AjKept, L9Kept, A9Kept}
 use Rattle.card_kept.proofs.FieldsKept.{plain-number}
 use Rattle.card_kept.proofs.RecordsKept.{nameOf, right-named, right-fields, is-right}
 use Rattle.card_kept.proofs.Sales.{plain-cv, joined-hold, joined-kept}
+use Rattle.card_kept.proofs.Adjustments.{joined-agrees, agrees-joined}
 
 -- a record of a kind keeps the rules as the next one of a state
 abbrev pub NextKept : Kind → Running → List ℕ → Type 0
 NextKept A0 st r = A0Kept (st .edition) (suc (st .numbers .records)) r
 NextKept L0 st r = L0Kept (st .edition) (suc (st .numbers .records)) r
 NextKept Cv st r = CvKept (st .edition) (suc (st .numbers .records)) r
-NextKept L9 st r = L9Kept (st .batch .sales) (st .batch .gross) (st .edition) (suc (st .numbers .records)) r
+NextKept Aj st r = AjKept (st .edition) (suc (st .numbers .records)) r
+NextKept L9 st r = L9Kept (st .batch .transactions) (st .batch .added) (st .batch .taken) (st .edition) (suc (st .numbers .records)) r
 NextKept A9 st r = A9Kept (st .edition) (suc (st .numbers .records)) r
 
 -- the digits of NSEQ, the last six positions of each kind
@@ -43,6 +45,7 @@ abbrev nseqField : Kind → Field
 nseqField A0 = field 70 75 Digits
 nseqField L0 = field 13 18 Digits
 nseqField Cv = field 194 199 Digits
+nseqField Aj = field 188 193 Digits
 nseqField L9 = field 23 28 Digits
 nseqField A9 = field 9 14 Digits
 
@@ -54,6 +57,7 @@ nseq-digits : (kind : Kind) (e : ℕ) (r : List ℕ) → FieldsKept e r (tableOf
 nseq-digits A0 e r k = k .1 .1 .1 .1 .1 .1 .1 .1 .0
 nseq-digits L0 e r k = k .1 .1 .0
 nseq-digits Cv e r k = k .1 .1 .1 .1 .1 .1 .1 .1 .1 .1 .1 .1 .1 .1 .1 .1 .1 .1 .1 .1 .1 .1 .1 .1 .0
+nseq-digits Aj e r k = k .1 .1 .1 .1 .1 .1 .1 .1 .1 .1 .1 .1 .1 .1 .1 .1 .1 .1 .1 .1 .1 .1 .0
 nseq-digits L9 e r k = k .1 .1 .0
 nseq-digits A9 e r k = k .1 .0
 
@@ -70,6 +74,7 @@ short-nseq : (kind : Kind) → (leb (nseqField kind .1 - (nseqField kind .0 - 1)
 short-nseq A0 = (refl, refl)
 short-nseq L0 = (refl, refl)
 short-nseq Cv = (refl, refl)
+short-nseq Aj = (refl, refl)
 short-nseq L9 = (refl, refl)
 short-nseq A9 = (refl, refl)
 
@@ -77,6 +82,7 @@ pub of-kind : (kind : Kind) (st : Running) (r : List ℕ) → NextKept kind st r
 of-kind A0 st r k = k
 of-kind L0 st r k = k
 of-kind Cv st r k = k .kind
+of-kind Aj st r k = k .kind
 of-kind L9 st r k = k .kind
 of-kind A9 st r k = k .kind
 
@@ -108,10 +114,13 @@ module _ (st : Running) (r : List ℕ) (next : nextNumber st ≡ suc (st .number
   kept-joined Cv k =
       both (numbered Cv k)
       (ap (λ c. allHold (joinedRules c)) (plain-cv (st .edition) r (k .kind .fields)) ∙ joined-kept r (k .sale-agrees) (k .paid))
+  kept-joined Aj k = both (numbered Aj k) (agrees-joined (st .edition) r (k .kind .fields) (k .agrees))
   kept-joined L9 k =
       let fields = k .kind .fields in
+      let sum = plain-number (field 9 22 Digits) r refl (fields .1 .0) in
       both (numbered L9 k)
-      (both (number-reads (field 3 8 Digits) r refl (fields .0) (k .counts)) (both (number-reads (field 9 22 Digits) r refl (fields .1 .0) (k .sums)) refl))
+      (both (number-reads (field 3 8 Digits) r refl (fields .0) (k .counts))
+      (both (eq-eqb _ _ (ap (λ (n : ℕ). n + st .batch .taken) sum ∙ k .sums)) refl))
   kept-joined A9 k =
       both (numbered A9 k) (both (number-reads (field 3 8 Digits) r refl (k .kind .fields .0) (k .counts ∙ sym next)) refl)
 
@@ -138,16 +147,22 @@ module _ (st : Running) (r : List ℕ) (next : nextNumber st ≡ suc (st .number
         let kind = stands Cv right (both-left nseq _ h) in
         let is = joined-hold r (sym (ap (λ c. allHold (joinedRules c)) (plain-cv (st .edition) r (kind .fields))) ∙ both-right nseq _ h) in
         record { kind = kind; sale-agrees = is .0; paid = is .1 }
+    joined-next Aj right h =
+        let nseq = eqb (numberIn (nseqField Aj) r) (nextNumber st) in
+        let kind = stands Aj right (both-left nseq _ h) in
+        record { kind = kind; agrees = joined-agrees (st .edition) r (kind .fields) (both-right nseq _ h) }
     joined-next L9 right h =
         let nseq = eqb (numberIn (nseqField L9) r) (nextNumber st) in
-        let count = eqb (numberIn (field 3 8 Digits) r) (st .batch .sales) in
-        let sum = eqb (numberIn (field 9 22 Digits) r) (st .batch .gross) in
+        let count = eqb (numberIn (field 3 8 Digits) r) (st .batch .transactions) in
+        let sum = eqb (numberIn (field 9 22 Digits) r + st .batch .taken) (st .batch .added) in
         let kind = stands L9 right (both-left nseq (count && (sum && true)) h) in
         let rest = both-right nseq (count && (sum && true)) h in
         record {
           kind = kind;
           counts = number-stands (field 3 8 Digits) r refl (kind .fields .0) (both-left count (sum && true) rest);
-          sums = number-stands (field 9 22 Digits) r refl (kind .fields .1 .0) (both-left sum true (both-right count (sum && true) rest));
+          sums =
+              ap (λ (n : ℕ). n + st .batch .taken) (sym (plain-number (field 9 22 Digits) r refl (kind .fields .1 .0))) ∙
+              eqb-true _ _ (both-left sum true (both-right count (sum && true) rest));
         }
     joined-next A9 right h =
         let nseq = eqb (numberIn (nseqField A9) r) (nextNumber st) in

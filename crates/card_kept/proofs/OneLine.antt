@@ -6,18 +6,34 @@ use mathlib.Core.Bool.{true}
 use Rattle.text.proofs.Alphabets.{both}
 use Rattle.lines.specs.Lines.{cut, joined, allNoLf, withCr}
 use Rattle.lines.proofs.Cuts.{row-clear, cut-joined}
-use Rattle.card_kept.specs.Kept.{Batch, File, batchRecords, batchesRecords, recordsOf, SalesKept, BatchKept, BatchesKept, FileKept}
+use Rattle.card_kept.specs.Kept.{
+  Transaction,
+  sale,
+  adjustment,
+  bytesOf,
+  Batch,
+  File,
+  batchRecords,
+  batchesRecords,
+  recordsOf,
+  TransactionsKept,
+  BatchKept,
+  BatchesKept,
+  FileKept,
+}
 
 module _ (e : ℕ) where
-  sales-clear : (n : ℕ) (rs : List (List ℕ)) → SalesKept e n rs → allNoLf rs ≡ true
-  unfolding allNoLf SalesKept
-  sales-clear n [] k = refl
-  sales-clear n (r ∷ rs) (k, ks) = both (k .kind .in-one-line) (sales-clear (suc n) rs ks)
+  transactions-clear : (n : ℕ) (ts : List Transaction) → TransactionsKept e n ts → allNoLf (map bytesOf ts) ≡ true
+  unfolding allNoLf TransactionsKept
+  transactions-clear n [] k = refl
+  transactions-clear n (sale r ∷ ts) (k, ks) = both (k .kind .in-one-line) (transactions-clear (suc n) ts ks)
+  transactions-clear n (adjustment r ∷ ts) (k, ks) = both (k .kind .in-one-line) (transactions-clear (suc n) ts ks)
 
   batch-clear : (n : ℕ) (b : Batch) → BatchKept e n b → allNoLf (batchRecords b) ≡ true
   unfolding allNoLf
   batch-clear n b k =
-      both (k .l0 .in-one-line) (row-clear (b .sales) (b .l9 ∷ []) (sales-clear (suc n) (b .sales) (k .sales)) (both (k .l9 .kind .in-one-line) refl))
+      both (k .l0 .in-one-line)
+      (row-clear (map bytesOf (b .transactions)) (b .l9 ∷ []) (transactions-clear (suc n) (b .transactions) (k .transactions)) (both (k .l9 .kind .in-one-line) refl))
 
   batches-clear : (n : ℕ) (bs : List Batch) → BatchesKept e n bs → allNoLf (batchesRecords bs) ≡ true
   unfolding allNoLf BatchesKept batchesRecords

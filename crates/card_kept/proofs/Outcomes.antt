@@ -14,6 +14,7 @@ use Rattle.refusal.specs.Rules.{Rule, ruleAt, firstBroken, allHold}
 use Rattle.refusal.proofs.Faults.{not-both}
 use Rattle.refusal.proofs.Rules.{all-hold, none-broken, is-first, gives-first}
 use Rattle.lines.specs.Lines.{endsInCr, withoutLast}
+use Rattle.card_adjustment.specs.Aj.{isCredit}
 use Rattle.card_record.specs.declared.reading.Reading.{Reading}
 use Rattle.card_record.specs.declared.reading.Reading.the-variants.{
   Unknown as unknown,
@@ -21,6 +22,7 @@ use Rattle.card_record.specs.declared.reading.Reading.the-variants.{
   A0 as a0,
   L0 as l0,
   Cv as cv,
+  Aj as aj,
   L9 as l9,
   A9 as a9,
 }
@@ -37,6 +39,7 @@ use Rattle.card_run.specs.Answer.{answerAt, answerOf}
 use Rattle.card_file.specs.CardFile.{unendedAt, unendedOf, lineOf, endOf}
 use Rattle.card_run.proofs.FileRows.{isRefusal}
 use Rattle.card_kept.specs.FirstFault.{ended, endRule, rulesFromKind, rulesAt, RefusedBy, piece, rest, nextRules}
+use Rattle.card_kept.proofs.Adjustments.{either-way}
 use Rattle.card_kept.proofs.AtItsPlace.{fed-by-fault}
 
 -- what the first fault of rules makes of a run
@@ -53,6 +56,7 @@ module _ (st : Running) (going : isRefusal (answerOf st) ≡ false) where
   behind-goes-on (a0 x) = refl
   behind-goes-on (l0 x) = refl
   behind-goes-on (cv x) = refl
+  behind-goes-on (aj x) = either-way (λ after. isRefusal (answerOf after) ≡ false) (isCredit x) refl refl
   behind-goes-on (l9 x) = refl
   behind-goes-on (a9 x) = refl
 

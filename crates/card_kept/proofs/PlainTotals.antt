@@ -64,6 +64,10 @@ sold-first r rs = by-figure each
     each discount = refl
     each net = refl
 
+pub sold-alone : (r : List ℕ) → totalsOf (r ∷ []) ≡ sold r
+unfolding sumOver
+sold-alone r = sold-first r [] ∙ plus-none (sold r)
+
 pub sold-row : (rs ss : List (List ℕ)) → totalsOf (rs ++ ss) ≡ plus (totalsOf rs) (totalsOf ss)
 unfolding sumOver
 sold-row [] ss = sym (none-plus (totalsOf ss))

@@ -16,7 +16,7 @@ use Rattle.text.proofs.Alphabets.{both, both-right}
 use Rattle.text.proofs.Literals.{same-equal}
 use Rattle.card_content.specs.Field.{tableRules, recordRules}
 use Rattle.card_record.specs.declared.kind.Kind.{Kind}
-use Rattle.card_record.specs.declared.kind.Kind.the-variants.{A0, L0, Cv, L9, A9}
+use Rattle.card_record.specs.declared.kind.Kind.the-variants.{A0, L0, Cv, Aj, L9, A9}
 use Rattle.card_record.specs.declared.kind.KindFound.the-variants.{Known, Unknown}
 use Rattle.card_record.specs.Kind.{kindNamed}
 use Rattle.card_record.specs.Reading.{widthOf, tableOf}
@@ -29,6 +29,7 @@ abbrev pub nameOf : Kind → String
 nameOf A0 = "A0"
 nameOf L0 = "L0"
 nameOf Cv = "CV"
+nameOf Aj = "AJ"
 nameOf L9 = "L9"
 nameOf A9 = "A9"
 
@@ -38,6 +39,7 @@ unfolding kindNamed sameBytes
 named-kind A0 = refl
 named-kind L0 = refl
 named-kind Cv = refl
+named-kind Aj = refl
 named-kind L9 = refl
 named-kind A9 = refl
 
@@ -45,30 +47,33 @@ named-kind A9 = refl
 kind-named : (name : List ℕ) (kind : Kind) → kindNamed name ≡ Known kind → name ≡ ascii (nameOf kind)
 unfolding kindNamed
 kind-named name kind e =
-    by (sameBytes name (ascii "CV")) (sameBytes name (ascii "L0")) (sameBytes name (ascii "L9")) (sameBytes name (ascii "A0")) (sameBytes name (ascii "A9"))
-    refl refl refl refl refl e
+    by (sameBytes name (ascii "CV")) (sameBytes name (ascii "AJ")) (sameBytes name (ascii "L0")) (sameBytes name (ascii "L9")) (sameBytes name (ascii "A0"))
+    (sameBytes name (ascii "A9"))
+    refl refl refl refl refl refl e
   where
     is : (k : Kind) → sameBytes name (ascii (nameOf k)) ≡ true → Known k ≡ Known kind → name ≡ ascii (nameOf kind)
     is k t e =
         let z : k ≡ kind = cc in
         same-equal name (ascii (nameOf k)) t ∙ ap (λ (k : Kind). ascii (nameOf k)) z
 
-    by : (a b c d f : Bool) → sameBytes name (ascii "CV") ≡ a → sameBytes name (ascii "L0") ≡ b → sameBytes name (ascii "L9") ≡ c →
-        sameBytes name (ascii "A0") ≡ d → sameBytes name (ascii "A9") ≡ f →
-        cond a (Known Cv) (cond b (Known L0) (cond c (Known L9) (cond d (Known A0) (cond f (Known A9) Unknown)))) ≡ Known kind →
+    by : (a b c d f g : Bool) → sameBytes name (ascii "CV") ≡ a → sameBytes name (ascii "AJ") ≡ b → sameBytes name (ascii "L0") ≡ c →
+        sameBytes name (ascii "L9") ≡ d → sameBytes name (ascii "A0") ≡ f → sameBytes name (ascii "A9") ≡ g →
+        cond a (Known Cv) (cond b (Known Aj) (cond c (Known L0) (cond d (Known L9) (cond f (Known A0) (cond g (Known A9) Unknown))))) ≡ Known kind →
         name ≡ ascii (nameOf kind)
-    by true b c d f p q s t u e = is Cv p e
-    by false true c d f p q s t u e = is L0 q e
-    by false false true d f p q s t u e = is L9 s e
-    by false false false true f p q s t u e = is A0 t e
-    by false false false false true p q s t u e = is A9 u e
-    by false false false false false p q s t u e = absurd (let z : _≡_ {A = ℕ} 0 1 = cc in omega arith)
+    by true b c d f g p q s t u v e = is Cv p e
+    by false true c d f g p q s t u v e = is Aj q e
+    by false false true d f g p q s t u v e = is L0 s e
+    by false false false true f g p q s t u v e = is L9 t e
+    by false false false false true g p q s t u v e = is A0 u e
+    by false false false false false true p q s t u v e = is A9 v e
+    by false false false false false false p q s t u v e = absurd (let z : _≡_ {A = ℕ} 0 1 = cc in omega arith)
 
 -- each kind's fields lie in its width
 all-fit-kind : (kind : Kind) → all-fit (widthOf kind) (tableOf kind) ≡ true
 all-fit-kind A0 = refl
 all-fit-kind L0 = refl
 all-fit-kind Cv = refl
+all-fit-kind Aj = refl
 all-fit-kind L9 = refl
 all-fit-kind A9 = refl
 

@@ -19,6 +19,8 @@ use Rattle.refusal.proofs.Rules.{all-hold}
 use Rattle.text.proofs.Alphabets.{both-left, both-right}
 use Rattle.lines.specs.Lines.{endsInCr, withoutLast}
 use Rattle.card_sale.proofs.Ranges.{cv-below}
+use Rattle.card_adjustment.specs.Aj.{isCredit}
+use Rattle.card_adjustment.proofs.Ranges.{aj-below}
 use Rattle.card_frame.proofs.Ranges.{a0-below, l0-below, l9-below, a9-below}
 use Rattle.card_record.specs.declared.reading.Reading.{Reading}
 use Rattle.card_record.specs.declared.reading.Reading.the-variants.{
@@ -27,6 +29,7 @@ use Rattle.card_record.specs.declared.reading.Reading.the-variants.{
   A0 as a0,
   L0 as l0,
   Cv as cv,
+  Aj as aj,
   L9 as l9,
   A9 as a9,
 }
@@ -44,6 +47,7 @@ use Rattle.card_file.specs.Feeding.{fedOf, fedAll}
 use Rattle.card_run.specs.Answer.{answerAt, answerOf}
 use Rattle.card_file.specs.CardFile.{unendedAt, unendedOf, lineOf, linesOf}
 use Rattle.card_run.proofs.FileRows.{isRefusal}
+use Rattle.card_kept.proofs.Adjustments.{either-way}
 
 -- n records have come, and there is room for one more
 pub record Reached (n : ℕ) (st : Running) : Type 0 where
@@ -95,6 +99,9 @@ module _ (st : Running) (n : ℕ) (reached : Reached n st) where
   kept k r (a0 x) s e = record { counts = next-number; room = room-left _ 70 (x .nseq) _ (rw (s .1) (a0-below r .nseq)) e }
   kept k r (l0 x) s e = record { counts = next-number; room = room-left _ 13 (x .nseq) _ (rw (s .1) (l0-below r .nseq)) e }
   kept k r (cv x) s e = record { counts = next-number; room = room-left _ 194 (x .nseq) _ (rw (s .1) (cv-below r .nseq)) e }
+  kept k r (aj x) s e =
+      let room = room-left _ 188 (x .nseq) _ (rw (s .1) (aj-below r .nseq)) e in
+      either-way (Stands k (suc n)) (isCredit x) (record { counts = next-number; room = room }) (record { counts = next-number; room = room })
   kept k r (l9 x) s e = record { counts = next-number; room = room-left _ 23 (x .nseq) _ (rw (s .1) (l9-below r .nseq)) e }
   kept k r (a9 x) s e = record { counts = next-number; room = room-left _ 9 (x .nseq) _ (rw (s .1) (a9-below r .nseq)) e }
 

@@ -10,14 +10,15 @@ use Rattle.refusal.specs.Rules.{firstBroken, allHold}
 use Rattle.refusal.proofs.Rules.{all-hold, none-broken}
 use Rattle.text.proofs.Alphabets.{both, both-left, both-right}
 use Rattle.card_sale.specs.Cv.{cvOf}
+use Rattle.card_adjustment.specs.Aj.{ajOf}
 use Rattle.card_frame.specs.A0.{a0Of}
 use Rattle.card_frame.specs.L0.{l0Of}
 use Rattle.card_frame.specs.L9.{l9Of}
 use Rattle.card_frame.specs.A9.{a9Of}
 use Rattle.card_record.specs.declared.kind.Kind.{Kind}
-use Rattle.card_record.specs.declared.kind.Kind.the-variants.{A0, L0, Cv, L9, A9}
+use Rattle.card_record.specs.declared.kind.Kind.the-variants.{A0, L0, Cv, Aj, L9, A9}
 use Rattle.card_record.specs.declared.reading.Reading.{Reading}
-use Rattle.card_record.specs.declared.reading.Reading.the-variants.{Unknown as unknown, Faulty as faulty, A0 as a0, L0 as l0, Cv as cv, L9 as l9, A9 as a9}
+use Rattle.card_record.specs.declared.reading.Reading.the-variants.{Unknown as unknown, Faulty as faulty, A0 as a0, L0 as l0, Cv as cv, Aj as aj, L9 as l9, A9 as a9}
 use Rattle.card_record.specs.Reading.{rightReading, readingOf}
 use Rattle.card_record.proofs.Readings.{Right, says, said}
 use Rattle.card_run.specs.Running.{lateAt}
@@ -46,6 +47,7 @@ unfolding rightReading
 right-reads A0 e r right = said e r (a0 (a0Of r)) (right, refl)
 right-reads L0 e r right = said e r (l0 (l0Of r)) (right, refl)
 right-reads Cv e r right = said e r (cv (cvOf r)) (right, refl)
+right-reads Aj e r right = said e r (aj (ajOf r)) (right, refl)
 right-reads L9 e r right = said e r (l9 (l9Of r)) (right, refl)
 right-reads A9 e r right = said e r (a9 (a9Of r)) (right, refl)
 
@@ -55,6 +57,7 @@ unfolding rulesOf rightReading
 rules-are A0 st r = refl
 rules-are L0 st r = refl
 rules-are Cv st r = refl
+rules-are Aj st r = refl
 rules-are L9 st r = refl
 rules-are A9 st r = refl
 
@@ -108,6 +111,9 @@ module _ (st : Running) (r : List ℕ) where
   by-reading (cv n) e h =
       let is = says (st .edition) r e in
       went-as Cv (is .0) (subst (λ n. placed (st .stage) Cv && allHold (joinedAt st (cv n)) ≡ true) (is .1) h)
+  by-reading (aj n) e h =
+      let is = says (st .edition) r e in
+      went-as Aj (is .0) (subst (λ n. placed (st .stage) Aj && allHold (joinedAt st (aj n)) ≡ true) (is .1) h)
   by-reading (l9 n) e h =
       let is = says (st .edition) r e in
       went-as L9 (is .0) (subst (λ n. placed (st .stage) L9 && allHold (joinedAt st (l9 n)) ≡ true) (is .1) h)

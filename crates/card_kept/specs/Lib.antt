@@ -1,5 +1,6 @@
 pub mod Fields
 pub mod Sale
+pub mod Adjustment
 pub mod Records
 pub mod Kept
 pub mod Numbers

@@ -11,11 +11,13 @@ use Rattle.text.specs.Part.{positions}
 use Rattle.lines.specs.Lines.{noLf}
 use Rattle.card_content.specs.declared.field.Field.{Field}
 use Rattle.card_sale.specs.Cv.{cvTable}
+use Rattle.card_adjustment.specs.Aj.{ajTable}
 use Rattle.card_frame.specs.A0.{a0Table}
 use Rattle.card_frame.specs.L0.{l0Table}
 use Rattle.card_frame.specs.L9.{l9Table}
 use Rattle.card_frame.specs.A9.{a9Table}
 use Rattle.card_kept.specs.Fields.{FieldsKept, numberAt}
+use Rattle.card_kept.specs.Adjustment.{adjustmentGross, adjustmentDiscount, adjustmentNet}
 use Rattle.card_kept.specs.Sale.{
   saleGross,
   saleDiscount,
@@ -62,11 +64,17 @@ pub record CvKept (edition number : ℕ) (r : List ℕ) : Type 0 where
   pub sale-agrees : saleGross r ≡ saleDiscount r + saleNet r
   pub paid : NoInstalment r ⊎ Instalment r
 
--- a trailer of a batch of so many sales with such a sum of payable gross, as whole numbers: "A sum too large for its field equals none"
-pub record L9Kept (sales gross : ℕ) (edition number : ℕ) (r : List ℕ) : Type 0 where
+-- "Where AJ prints gross, discount and net, the amounts rule holds at its net"
+pub record AjKept (edition number : ℕ) (r : List ℕ) : Type 0 where
+  pub kind : RecordOf "AJ" 193 ajTable 188 193 edition number r
+  pub agrees : adjustmentGross r ≡ adjustmentDiscount r + adjustmentNet r
+
+-- a trailer of a batch of so many transactions, whose sum is what is added less what is taken, as whole numbers: "A sum too large for its field equals none",
+-- and "a sum below zero equals no trailer"
+pub record L9Kept (transactions added taken : ℕ) (edition number : ℕ) (r : List ℕ) : Type 0 where
   pub kind : RecordOf "L9" 28 l9Table 23 28 edition number r
-  pub counts : numberAt 3 8 r ≡ sales
-  pub sums : numberAt 9 22 r ≡ gross
+  pub counts : numberAt 3 8 r ≡ transactions
+  pub sums : numberAt 9 22 r + taken ≡ added
 
 -- the trailer of a file: it counts "every record of the file (a count in A9)", and so its own number
 pub record A9Kept (edition number : ℕ) (r : List ℕ) : Type 0 where

@@ -16,7 +16,7 @@ use Rattle.chunks.proofs.Clipped.{clipped-ends, clipped-record}
 use Rattle.chunks.proofs.Streams.{LooksNoFurther}
 use Rattle.card_content.specs.Field.{recordRules}
 use Rattle.card_record.specs.declared.kind.Kind.{Kind}
-use Rattle.card_record.specs.declared.kind.Kind.the-variants.{A0, L0, Cv, L9, A9}
+use Rattle.card_record.specs.declared.kind.Kind.the-variants.{A0, L0, Cv, Aj, L9, A9}
 use Rattle.card_record.specs.declared.kind.KindFound.{KindFound}
 use Rattle.card_record.specs.declared.kind.KindFound.the-variants.{Known, Unknown}
 use Rattle.card_record.specs.Kind.{kindOf, kindNamed}
@@ -30,6 +30,7 @@ narrow : (kind : Kind) → widthOf kind < 200
 narrow A0 = omega arith
 narrow L0 = omega arith
 narrow Cv = omega arith
+narrow Aj = omega arith
 narrow L9 = omega arith
 narrow A9 = omega arith
 

@@ -19,7 +19,7 @@ use Rattle.payroll_kept.specs.FirstFaultOfFile as payroll-file
 use Rattle.demands.specs.Examples.{examples, allAsWritten}
 use Rattle.demands.specs.Feeding.{FedAsWhole, RefusedForGood, BadEdition, AfterAcceptedClose, OnePastTheLast}
 use Rattle.demands.specs.HiddenDigits.{HiddenDigitsReachNothing, MaskedWhereHidden}
-use Rattle.demands.specs.HiddenDigitsExample.{TwinsThatDiffer}
+use Rattle.demands.specs.HiddenDigitsExample.{oneFile, otherFile, oneCredit, otherCredit, TwinsThatDiffer}
 use Rattle.demands.specs.InChunks.{AsTheWhole, AfterTheEnd}
 use Rattle.demands.specs.LentBuffers.{RefusedLeavesAlone}
 use Rattle.demands.specs.RulesKept.{CardRulesKept, PayrollRulesKept, SheetThereAndBack}
@@ -60,6 +60,7 @@ pub record Demands : Type 0 where
   -- "The masked copy is the accepted file with a star at each such place"
   pub masked-where-hidden : (file : List ℕ) → MaskedWhereHidden file
   -- there are such files
-  pub twins-that-differ : TwinsThatDiffer
+  pub twins-that-differ : TwinsThatDiffer oneFile otherFile
+  pub credits-that-differ : TwinsThatDiffer oneCredit otherCredit
   -- THE EXAMPLES marked (p)
   pub examples-hold : allAsWritten examples ≡ true

@@ -28,7 +28,8 @@ use Rattle.demands.specs.Feeding.{Call, feed, close, called}
 use Rattle.demands.specs.InChunks.{cardInChunks, copiedInChunks}
 
 -- a place of a record, from 0, is hidden where it is a hidden place of the card that begins at k;
--- "It counts only in a record of kind CV, 199 wide, with a well-formed card field" (a card that is not well formed has no hidden place)
+-- "It counts only in a record of kind CV, 199 wide, with a well-formed card field", and "now include the AJ card", in one 193 wide (a card that is not well formed, as
+-- one of blanks, has no hidden place)
 unfoldable pub hiddenAt : CardPart → List ℕ → ℕ → Bool
 hiddenAt Nowhere r i = false
 hiddenAt (From k) r i = leb k i && hiddenPlace (cardFrom k r) (i - k)

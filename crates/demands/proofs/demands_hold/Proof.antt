@@ -9,7 +9,7 @@ use Rattle.payroll_kept.proofs.FirstFaultOfFile as payroll-file
 use Rattle.demands.proofs.Examples.{hold}
 use Rattle.demands.proofs.Feeding.{fed-as-whole, refused-for-good, bad-edition, after-accepted-close, one-past-the-last}
 use Rattle.demands.proofs.HiddenDigits.{hidden-digits-reach-nothing, masked-where-hidden}
-use Rattle.demands.proofs.HiddenDigitsExample.{twins-that-differ}
+use Rattle.demands.proofs.HiddenDigitsExample.{twins-that-differ, credits-that-differ}
 use Rattle.demands.proofs.InChunks.{as-the-whole, after-the-end}
 use Rattle.demands.proofs.LentBuffers.{refused-leaves-alone}
 use Rattle.demands.proofs.RulesKept.{card-rules-kept, payroll-rules-kept, sheet-there-and-back}
@@ -39,6 +39,7 @@ returns c =
       hidden-digits-reach-nothing = hidden-digits-reach-nothing;
       masked-where-hidden = masked-where-hidden;
       twins-that-differ = twins-that-differ;
+      credits-that-differ = credits-that-differ;
       examples-hold = hold;
     }
 

@@ -1,12 +1,13 @@
 -- `card_stream::Stream::take` meets its contract: where the chunk has an LF, what is held and the bytes before it are the first piece, and the
 -- other pieces stand in the chunk; where it has none, it is held.
-use Prim.Native.Nat.{_<_}
+use Prim.Native.Nat.{_+_, _≤_, _<_}
 use mathlib.Core.Path.{_≡_, sym, _∙_, ap}
 use native.Mathlib.Omega.{arith}
 use borrow.Author.Needs.{needs}
 use denote.Ref.{now}
 use lib.ListN.{length}
 use lib.Seq.{length-take-le}
+use Rattle.totals.specs.Sum.{top}
 use Rattle.lines.specs.declared.Found.the-variants.{At}
 use Rattle.lines.specs.Lines.{nextLf}
 use Rattle.lines.proofs.Cuts.{at-inside}
@@ -25,6 +26,10 @@ found c = sym (c .before .before .before .next-lf .ensures) ∙ c .before .end .
 
 inside : (c : tie.After-known-told) → c .before .end .given .0 .0 < length (now (c .before .before .before .before .before .before .before .args .chunk))
 inside c = at-inside 0 _ _ (found c) .1
+
+-- so the place behind it is a number too
+place-behind : (c : tie.After-known-told) → c .before .end .given .0 .0 + 1 ≤ top
+place-behind c = omega (arith, inside c)
 
 next-lf-requires : tie.Need-next-lf-requires
 next-lf-requires c κs = search needs
@@ -65,7 +70,7 @@ take-line-requires : tie.Need-take-line-requires
 take-line-requires c κs = search needs
 
 add-take-lines : tie.Need-add-take-lines
-add-take-lines c = omega (arith, inside (c .before .before .before .before .before .before))
+add-take-lines c = omega (arith, place-behind (c .before .before .before .before .before .before))
 
 take-lines-requires : tie.Need-take-lines-requires
 take-lines-requires c κs = search needs
