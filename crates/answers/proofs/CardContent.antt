@@ -9,14 +9,14 @@ use Rattle.calendar.specs.Day.{isDay}
 use Rattle.calendar.specs.Time.{isTime}
 use Rattle.calendar.specs.When.{whenRules}
 use Rattle.pan.specs.CardField.{wellFormed}
-use Rattle.card_content.specs.Content.{inSet, contentRules}
+use Rattle.card_content.specs.Content.{inSet, dayOrZerosRules, cardOrBlanksRules, contentRules}
 use Rattle.answers.proofs.Observed.{faultNumber, faultColumn}
 use base.Fml.{Lft}
 use Rattle.answers.specs.CardContent.{CardContent}
 use Rattle.answers.proofs.Told.{equal, told, bit, same-part}
 
 pub card-content : (κ : Lft) → CardContent κ
-unfolding firstBroken allowed holdsOnly valueFrom sameBytes hasByte oneByteOf daysIn isDay isTime whenRules wellFormed inSet contentRules
+unfolding firstBroken allowed holdsOnly valueFrom sameBytes hasByte oneByteOf daysIn isDay isTime whenRules wellFormed inSet dayOrZerosRules cardOrBlanksRules contentRules
 card-content κ =
     record {
       is-in-set = λ κs a r r' s s' p q. equal p q;
@@ -24,10 +24,20 @@ card-content κ =
       set-capture-2 = (refl, told bit refl);
       set-version = (refl, told bit refl);
       set-currency = (refl, told bit refl);
+      set-adjustment-8 = (refl, told bit refl);
+      set-adjustment-1 = (refl, told bit refl);
+      set-adjustment-2 = (refl, told bit refl);
+      set-adjustment-type = (refl, told bit refl);
       fault-of = λ κs a r r' s s' p q. equal p q;
       fault-of-set = (refl, told faultNumber refl);
       fault-of-card = (refl, told faultNumber refl);
       fault-of-day = (refl, told faultNumber refl);
+      fault-of-zeros = (refl, told faultNumber refl);
+      fault-of-no-day = (refl, told faultNumber refl);
+      fault-of-no-zeros = (refl, told faultNumber refl);
+      fault-of-blanks = (refl, told faultNumber refl);
+      fault-of-mixed = (refl, told faultNumber refl);
+      fault-of-no-blanks = (refl, told faultNumber refl);
       parts = λ κs a r r' s s' p q. same-part p q;
       part-late = (record { holds = refl; block = refl; begins = refl }, λ p. told (λ n. n) refl (p .begins));
       part-elsewhere = (record { holds = refl; block = refl; begins = refl }, λ p. told (λ n. n) refl (p .begins));

@@ -9,9 +9,10 @@ use Rattle.calendar.specs.Day.{isDay}
 use Rattle.calendar.specs.Time.{isTime}
 use Rattle.calendar.specs.When.{whenRules}
 use Rattle.pan.specs.CardField.{wellFormed}
-use Rattle.card_content.specs.Content.{inSet, contentRules}
+use Rattle.card_content.specs.Content.{inSet, dayOrZerosRules, cardOrBlanksRules, contentRules}
 use Rattle.card_content.specs.Field.{tableRules, recordRules}
 use Rattle.card_sale.specs.Cv.{joinedRules}
+use Rattle.card_adjustment.specs.Aj.{joinedRules as adjustmentRules}
 use Rattle.card_record.specs.Kind.{kindNamed}
 use Rattle.card_record.specs.Reading.{rightReading, judgedAs, readFound}
 use Rattle.card_run.specs.Answer.{answerAt}
@@ -26,24 +27,30 @@ use Rattle.card_file.specs.CardFile.{unendedAt, linesOf, endOf}
 use Rattle.chunks.specs.Unfinished.{clippedWith}
 use Rattle.chunks.specs.Chunks.{heldBefore}
 use Rattle.card_stream.specs.Stream.{behindEnd, withHeld}
-use Rattle.answers.proofs.Observed.{stageRead, answerRead}
+use Rattle.answers.proofs.Observed.{stageRead, answerRead, creditsRead}
 use lib.ListN.{getD}
 use base.Fml.{Lft}
 use Rattle.answers.specs.CardFile.{CardFile}
 use Rattle.answers.proofs.Told.{equal, told}
 
 pub card-file : (κ : Lft) → CardFile κ
-unfolding known answerWithRoom firstBroken allowed holdsOnly valueFrom sameBytes hasByte oneByteOf daysIn isDay isTime whenRules wellFormed inSet contentRules tableRules recordRules joinedRules kindNamed rightReading judgedAs readFound answerAt joinedAt rulesOf behind behindOrRefused tookAt closedAt inFront cut joined endsInCr withoutLast unendedAt linesOf endOf clippedWith heldBefore behindEnd withHeld lateAt
+unfolding known answerWithRoom firstBroken allowed holdsOnly valueFrom sameBytes hasByte oneByteOf daysIn isDay isTime whenRules wellFormed inSet dayOrZerosRules cardOrBlanksRules contentRules tableRules recordRules joinedRules adjustmentRules kindNamed rightReading judgedAs readFound answerAt joinedAt rulesOf behind behindOrRefused tookAt closedAt inFront cut joined endsInCr withoutLast unendedAt linesOf endOf clippedWith heldBefore behindEnd withHeld lateAt
 card-file κ =
     record {
       took = λ κs a r r' s s' p q. equal p q;
       took-nodded = (refl, told (λ st. stageRead (st .stage)) refl);
       took-not-added = (refl, told (λ st. st .numbers .totals .amounts .gross) refl);
       took-behind-a9 = (refl, told (λ st. stageRead (st .stage)) refl);
+      took-gross = (refl, told (λ st. st .batch .added) refl);
+      took-as-sale = (refl, told (λ st. st .numbers .totals .sales) refl);
+      took-debit-added = (refl, told (λ st. st .batch .added) refl);
+      took-below-zero = (refl, told (λ st. stageRead (st .stage)) refl);
       feed = λ κs a r r' s s' p q. equal p q;
       feed-disagreeing = (refl, told (λ st. stageRead (st .stage)) refl);
       feed-l9 = (refl, told (λ st. stageRead (st .stage)) refl);
       feed-refused = (refl, told (λ st. stageRead (st .stage)) refl);
+      feed-absolute = (refl, told (λ st. stageRead (st .stage)) refl);
+      feed-difference = (refl, told (λ st. stageRead (st .stage)) refl);
       take-line = λ κs a r r' s s' p q. equal p q;
       line-without-cr = (refl, told (λ st. stageRead (st .stage)) refl);
       line-with-cr = (refl, told (λ st. stageRead (st .stage)) refl);
@@ -58,6 +65,9 @@ card-file κ =
       check-258 = (refl, told answerRead refl);
       check-version = (refl, told answerRead refl);
       check-behind-a9 = (refl, told answerRead refl);
+      check-adjusted = (refl, told answerRead refl);
+      check-credit = (refl, told creditsRead refl);
+      check-before-l0 = (refl, told answerRead refl);
       with-room = λ κs a r r' s s' p q. equal p q;
       with-room-edition = (refl, told answerRead refl);
       with-room-first = (refl, told answerRead refl);

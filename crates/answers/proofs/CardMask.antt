@@ -47,6 +47,8 @@ card-mask κ =
       mask-lines = λ κs a r r' s s' p q. (equal (p .counts) (q .counts), equal (p .leaves) (q .leaves));
       lines-unfinished = (record { counts = refl; leaves = refl }, λ p. told (λ n. n) refl (p .counts));
       lines-unmasked = (record { counts = refl; leaves = refl }, λ p. told (λ s. getD s 96 0) refl (p .leaves));
+      lines-adjustment = (record { counts = refl; leaves = refl }, λ p. told (λ s. getD s 171 0) refl (p .leaves));
+      lines-blank-card = (record { counts = refl; leaves = refl }, λ p. told (λ s. getD s 168 0) refl (p .leaves));
       mask = λ κs a r r' s s' p q. (equal (p .answers) (q .answers), equal (p .leaves) (q .leaves));
       mask-none = (record { answers = refl; leaves = refl }, λ p. told (λ s. getD s 193 0) refl (p .leaves));
       mask-refused = (record { answers = refl; leaves = refl }, λ p. told (λ s. getD s 0 0) refl (p .leaves));
@@ -55,6 +57,7 @@ card-mask κ =
       field-answer = λ κs a r r' s s' p q. equal p q;
       field-card = (refl, told fieldRead refl);
       field-longer = (refl, told fieldRead refl);
+      field-adjustment = (refl, told fieldRead refl);
       field-order = (refl, told fieldRead refl);
       field = λ κs a r r' s s' p q. same-part p q;
       field-is-card = (record { holds = refl; block = refl; begins = refl }, λ p. told (λ n. n) refl (p .begins));

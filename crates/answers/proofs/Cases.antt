@@ -50,6 +50,7 @@ cases κ =
       fill-step = (refl, told (λ s. getD s 1 0) refl);
       card-row = λ κs a r r' s s' p q. equal p q;
       row-net = (refl, told (λ s. getD s 10 0) refl);
+      row-debits = (refl, told (λ s. getD s 11 0) refl);
       row-column = (refl, told (λ s. getD s 2 0) refl);
       same = λ κs a r r' s s' p q. equal p q;
       same-first = (refl, told bit refl);

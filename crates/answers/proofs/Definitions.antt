@@ -12,9 +12,10 @@ use Rattle.calendar.specs.When.{whenRules}
 use Rattle.pan.specs.CardField.{wellFormed, leadingZeros}
 use Rattle.pan.specs.HiddenPlaces.{hiddenPlaces}
 use Rattle.lines.specs.Lines.{inFront, cut, joined, endsInCr, withoutLast}
-use Rattle.card_content.specs.Content.{inSet, contentRules}
+use Rattle.card_content.specs.Content.{inSet, dayOrZerosRules, cardOrBlanksRules, contentRules}
 use Rattle.card_content.specs.Field.{tableRules, recordRules}
 use Rattle.card_sale.specs.Cv.{joinedRules}
+use Rattle.card_adjustment.specs.Aj.{joinedRules as adjustmentRules}
 use Rattle.card_record.specs.CardPart.{cardPartFound}
 use Rattle.card_record.specs.Kind.{kindNamed}
 use Rattle.card_record.specs.Reading.{rightReading, judgedAs, readFound}
@@ -48,19 +49,25 @@ use Rattle.answers.proofs.Told.{told, bit}
 use Rattle.answers.proofs.Observed.{payrollAnswerRead}
 
 pub definitions : Definitions
-unfolding known firstBroken allowed holdsOnly firstStray valueFrom sameBytes hasByte oneByteOf daysIn isDay isTime whenRules wellFormed leadingZeros hiddenPlaces inFront cut joined endsInCr withoutLast inSet contentRules tableRules recordRules joinedRules cardPartFound kindNamed rightReading judgedAs readFound answerAt cardFileRow joinedAt rulesOf behind behindOrRefused tookAt closedAt unendedAt linesOf endOf numberRules strayAt segmentNamed payrollKindNamed readAs payrollReadFound foundRules dueRules payrollRunRules behindDetailAs payrollBehind payrollBehindOrRefused payrollTookAt payrollUnendedAt payrollLinesOf endedOf cutShortOf endAt hiddenAt hiddenInPieces lateAt
+unfolding known firstBroken allowed holdsOnly firstStray valueFrom sameBytes hasByte oneByteOf daysIn isDay isTime whenRules wellFormed leadingZeros hiddenPlaces inFront cut joined endsInCr withoutLast inSet dayOrZerosRules cardOrBlanksRules contentRules tableRules recordRules joinedRules adjustmentRules cardPartFound kindNamed rightReading judgedAs readFound answerAt cardFileRow joinedAt rulesOf behind behindOrRefused tookAt closedAt unendedAt linesOf endOf numberRules strayAt segmentNamed payrollKindNamed readAs payrollReadFound foundRules dueRules payrollRunRules behindDetailAs payrollBehind payrollBehindOrRefused payrollTookAt payrollUnendedAt payrollLinesOf endedOf cutShortOf endAt hiddenAt hiddenInPieces lateAt
 definitions =
     record {
       kept-other-card = kept-means-kept 2 _ .0 (record { numbers = _; answer = refl });
       kept-first-instalment = kept-means-kept 2 _ .0 (record { numbers = _; answer = refl });
       kept-disagreeing = λ kept. told (λ a. bit (isAccepted a)) refl (kept-means-kept 2 _ .1 kept .answer);
       kept-by-net = λ kept. told (λ a. bit (isAccepted a)) refl (kept-means-kept 2 _ .1 kept .answer);
+      kept-adjusted = kept-means-kept 2 _ .0 (record { numbers = _; answer = refl });
+      kept-blank-card = kept-means-kept 2 _ .0 (record { numbers = _; answer = refl });
+      kept-absolute = λ kept. told (λ a. bit (isAccepted a)) refl (kept-means-kept 2 _ .1 kept .answer);
+      kept-zero = λ kept. told (λ a. bit (isAccepted a)) refl (kept-means-kept 2 _ .1 kept .answer);
       kept-payroll = payroll-law.kept-means-kept _ .0 (record { numbers = _; answer = refl });
       kept-z = λ kept. told payrollAnswerRead refl (payroll-law.kept-means-kept _ .1 kept .answer);
       kept-not-itself = λ kept. told payrollAnswerRead refl (payroll-law.kept-means-kept _ .1 kept .answer);
       hidden-from = (refl, refl);
       hidden-to = (refl, refl);
       twins-open-digit = λ twins. told (λ n. n) refl (twins .same-byte 202 (lit< tt) refl);
+      hidden-adjustment-from = (refl, refl);
+      hidden-adjustment-to = (refl, refl);
       rules-place-first = refl;
       refused-at-once = refl;
       refused-not-before = refl;

@@ -14,7 +14,7 @@ use Rattle.totals.specs.declared.sum.Sum.the-variants.{Of as sumIs, Over}
 use Rattle.lines.specs.declared.Found.{Found}
 use Rattle.lines.specs.declared.Found.the-variants.{At as foundAt, Nowhere as notFound}
 use Rattle.card_record.specs.declared.kind.Kind.{Kind}
-use Rattle.card_record.specs.declared.kind.Kind.the-variants.{A0, L0, Cv, L9, A9}
+use Rattle.card_record.specs.declared.kind.Kind.the-variants.{A0, L0, Cv, Aj, L9, A9}
 use Rattle.card_record.specs.declared.kind.KindFound.{KindFound}
 use Rattle.card_record.specs.declared.kind.KindFound.the-variants.{Known, Unknown}
 use Rattle.card_record.specs.declared.card_part.CardPart.{CardPart}
@@ -26,6 +26,7 @@ use Rattle.card_record.specs.declared.reading.Reading.the-variants.{
   A0 as a0,
   L0 as l0,
   Cv as cv,
+  Aj as aj,
   L9 as l9,
   A9 as a9,
 }
@@ -110,8 +111,9 @@ abbrev pub kindNumber : Kind → ℕ
 kindNumber A0 = 1
 kindNumber L0 = 2
 kindNumber Cv = 3
-kindNumber L9 = 4
-kindNumber A9 = 5
+kindNumber Aj = 4
+kindNumber L9 = 5
+kindNumber A9 = 6
 
 abbrev pub kindRead : KindFound → ℕ
 kindRead Unknown = 0
@@ -128,6 +130,7 @@ readingRead (faulty kind cause column) = numberOf cause
 readingRead (a0 r) = 0
 readingRead (l0 r) = 0
 readingRead (cv r) = 0
+readingRead (aj r) = 0
 readingRead (l9 r) = 0
 readingRead (a9 r) = 0
 
@@ -154,6 +157,12 @@ abbrev pub answerRead : CardAnswer → ℕ
 answerRead GoingOn = 0
 answerRead (Accepted a) = 101 + a .totals .sales
 answerRead (refused r) = numberOf (r .cause)
+
+-- and its count of credits
+abbrev pub creditsRead : CardAnswer → ℕ
+creditsRead GoingOn = 0
+creditsRead (Accepted a) = a .credits .count
+creditsRead (refused r) = 0
 
 abbrev pub fieldRead : FieldAnswer → ℕ
 fieldRead Offered = 0

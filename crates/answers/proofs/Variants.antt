@@ -109,5 +109,6 @@ variants d =
       hidden-digits-reach-nothing = λ wrong. told (λ row. bit (row .accepted)) refl (wrong 2 cardFile (fileOf (at 77 "00000009751" sale)) refl);
       masked-where-hidden = λ wrong. told (λ n. n) refl (sym (d .masked-where-hidden cardFile .at-each 192 (lit< tt)) ∙ wrong cardFile 192);
       twins-that-differ = d .twins-that-differ .differ;
+      credits-that-differ = d .credits-that-differ .differ;
       examples-hold = λ wrong. false≢true wrong;
     }

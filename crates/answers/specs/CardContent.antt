@@ -3,11 +3,11 @@ use mathlib.Core.Bool.{true, false}
 use Rattle.text.specs.Literal.{ascii}
 use Rattle.refusal.specs.declared.Cause.the-variants.{ByteNotAllowed, ValueNotAllowed, AmountsDisagree}
 use Rattle.refusal.specs.declared.Fault.the-variants.{Nothing, At}
-use Rattle.card_content.specs.declared.content.Content.the-variants.{Digits, Day, Card, OneOf}
-use Rattle.card_content.specs.declared.content.ClosedSet.the-variants.{Version, Currency, Product, Capture}
+use Rattle.card_content.specs.declared.content.Content.the-variants.{Digits, Day, DayOrZeros, Card, CardOrBlanks, OneOf}
+use Rattle.card_content.specs.declared.content.ClosedSet.the-variants.{Version, Currency, Product, Capture, AdjustmentCapture, AdjustmentType}
 use Rattle.card_content.specs.Field.{field}
 use Rattle.demands.specs.ExampleFile.{l9}
-use Rattle.answers.specs.Samples.{at, sale}
+use Rattle.answers.specs.Samples.{at, sale, blankCard}
 use base.Fml.{Lft}
 use Rattle.card_content.proofs.content.is_in_set.Reads as IsInSet
 use Rattle.card_content.proofs.content.fault_of.Reads as FaultOf
@@ -24,11 +24,24 @@ pub record CardContent (κ : Lft) : Type 0 where
   pub set-capture-2 : Tells (IsInSet.Post (one κ)) (Capture, (2, (lent (ascii "7"), tt))) true false
   pub set-version : Tells (IsInSet.Post (one κ)) (Version, (2, (lent (ascii "001.8d"), tt))) false true
   pub set-currency : Tells (IsInSet.Post (one κ)) (Currency, (2, (lent (ascii "  "), tt))) true false
+  -- of an adjustment: capture 8; capture 7 under edition 1, and refused under edition 2; a type 0
+  pub set-adjustment-8 : Tells (IsInSet.Post (one κ)) (AdjustmentCapture, (2, (lent (ascii "8"), tt))) false true
+  pub set-adjustment-1 : Tells (IsInSet.Post (one κ)) (AdjustmentCapture, (1, (lent (ascii "7"), tt))) false true
+  pub set-adjustment-2 : Tells (IsInSet.Post (one κ)) (AdjustmentCapture, (2, (lent (ascii "7"), tt))) true false
+  pub set-adjustment-type : Tells (IsInSet.Post (one κ)) (AdjustmentType, (2, (lent (ascii "0"), tt))) false true
   -- `fault_of`: 7 for a closed set; a star in the card refused; a day that is none taken
   pub fault-of : OneAnswer FaultOf.Post
   pub fault-of-set : Tells (FaultOf.Post (one κ)) (OneOf Product, (2, (53, (lent (ascii "X"), tt)))) (At ValueNotAllowed 53) (At ByteNotAllowed 53)
   pub fault-of-card : Tells (FaultOf.Post (one κ)) (Card, (2, (88, (lent (ascii "000123456****123456"), tt)))) Nothing (At ByteNotAllowed 88)
   pub fault-of-day : Tells (FaultOf.Post (one κ)) (Day, (2, (30, (lent (ascii "20230229"), tt)))) (At ValueNotAllowed 30) Nothing
+  -- where zeros are a day: zeros refused, a day that is none taken; where they are none: zeros taken
+  pub fault-of-zeros : Tells (FaultOf.Post (one κ)) (DayOrZeros, (2, (30, (lent (ascii "00000000"), tt)))) Nothing (At ValueNotAllowed 30)
+  pub fault-of-no-day : Tells (FaultOf.Post (one κ)) (DayOrZeros, (2, (30, (lent (ascii "20230229"), tt)))) (At ValueNotAllowed 30) Nothing
+  pub fault-of-no-zeros : Tells (FaultOf.Post (one κ)) (Day, (2, (52, (lent (ascii "00000000"), tt)))) (At ValueNotAllowed 52) Nothing
+  -- where blanks are a card: blanks refused, digits and blanks taken; where they are none: blanks taken
+  pub fault-of-blanks : Tells (FaultOf.Post (one κ)) (CardOrBlanks, (2, (163, (lent (ascii blankCard), tt)))) Nothing (At ByteNotAllowed 163)
+  pub fault-of-mixed : Tells (FaultOf.Post (one κ)) (CardOrBlanks, (2, (163, (lent (ascii "   1234567890123456"), tt)))) (At ByteNotAllowed 163) Nothing
+  pub fault-of-no-blanks : Tells (FaultOf.Post (one κ)) (Card, (2, (88, (lent (ascii blankCard), tt)))) (At ByteNotAllowed 88) Nothing
   -- `Field::part`: a column late; other bytes with the same content
   pub parts : OnePart Part.Post
   pub part-late : Tells (Part.Post (one κ)) (field 3 8 Digits, (lent l9, tt)) (part 2 (ascii "000001")) (part 3 (ascii "000010"))

@@ -1,6 +1,6 @@
 -- What the contracts of a card file, step by step, whole and in chunks, are held to. Behind a function's name: the wrong programs that are ruled out.
 use Prim.Native.Nat.{ℕ}
-use mathlib.Core.List.{List, [], _++_}
+use mathlib.Core.List.{List, [], _∷_, _++_}
 use lib.ListN.{take, drop, replicate}
 use Rattle.text.specs.Literal.{ascii}
 use Rattle.refusal.specs.declared.Cause.the-variants.{
@@ -8,6 +8,7 @@ use Rattle.refusal.specs.declared.Cause.the-variants.{
   OutputTooShort,
   NoLineEnd,
   KindUnknown,
+  KindNotAllowedHere,
   ValueNotAllowed,
   SequenceWrong,
   AmountsDisagree,
@@ -19,14 +20,29 @@ use Rattle.chunks.specs.Unfinished.{holding}
 use Rattle.chunks.specs.declared.Unfinished.{Unfinished}
 use Rattle.card_run.specs.declared.stage.Stage.the-variants.{Start, BetweenBatches, InBatch, Ended, Closed, Refused}
 use Rattle.card_run.specs.declared.running.Running.{Running}
-use Rattle.card_run.specs.declared.answer.CardAnswer.the-variants.{GoingOn, Refused as refused}
+use Rattle.card_run.specs.declared.answer.CardAnswer.the-variants.{GoingOn, Accepted, Refused as refused}
 use Rattle.card_stream.specs.declared.Stream.{Stream}
-use Rattle.card_record.specs.declared.reading.Reading.the-variants.{Cv as saleRead}
+use Rattle.card_record.specs.declared.reading.Reading.the-variants.{Cv as saleRead, Aj as adjustmentRead}
 use Rattle.answers.specs.Totals.{amounts, totalsOf}
 use Rattle.answers.specs.CardSale.{cashSale}
-use Rattle.answers.specs.CardRun.{numbers, batch, state, refusal, noSale, oneSale, accepted, opened}
-use Rattle.demands.specs.ExampleFile.{l9, fileOf}
-use Rattle.answers.specs.Samples.{at, sale, cardFile}
+use Rattle.answers.specs.CardAdjustment.{oneCredit, oneDebit}
+use Rattle.answers.specs.CardRun.{
+  adjusted,
+  numbersWith,
+  numbers,
+  batchOf,
+  batch,
+  state,
+  inBatchWith,
+  refusal,
+  noSale,
+  oneSale,
+  accepted,
+  opened,
+}
+use Rattle.lines.specs.Lines.{joined}
+use Rattle.demands.specs.ExampleFile.{a0, l9, a9, fileOf}
+use Rattle.answers.specs.Samples.{at, sale, credit, cardFile, adjustedFile}
 use base.Fml.{Lft}
 use Rattle.card_step.proofs.took.Reads as Took
 use Rattle.card_file.proofs.feed.Reads as Feed
@@ -57,11 +73,25 @@ pub record CardFile (κ : Lft) : Type 0 where
   pub took-nodded : Tells (Took.Post tt) (state InBatch 3 oneSale, (saleRead cashSale, tt)) (state (Refused (refusal SequenceWrong 4 194)) 3 oneSale) (state InBatch 4 oneSale)
   pub took-not-added : Tells (Took.Post tt) (state InBatch 2 noSale, (saleRead cashSale, tt)) (state InBatch 3 oneSale) (state InBatch 3 noSale)
   pub took-behind-a9 : Tells (Took.Post tt) (state Ended 2 noSale, (saleRead cashSale, tt)) (state (Refused (refusal BytesAfterTheEnd 3 0)) 2 noSale) (state InBatch 3 oneSale)
+  -- an adjustment: its gross in the batch's sum; counted among the sales; a debit added; refused where the sum is below zero on the way
+  pub took-gross : Tells (Took.Post tt) (state InBatch 2 noSale, (adjustmentRead oneCredit, tt)) (inBatchWith 3 noSale (adjusted 1 975) (adjusted 0 0) (batch 1 975)) (inBatchWith 3 noSale (adjusted 1 975) (adjusted 0 0) (batch 1 1000))
+  pub took-as-sale : Tells (Took.Post tt) (state InBatch 2 noSale, (adjustmentRead oneCredit, tt)) (inBatchWith 3 noSale (adjusted 1 975) (adjusted 0 0) (batch 1 975)) (inBatchWith 3 (totalsOf 1 (amounts 1000 25 975)) (adjusted 1 975) (adjusted 0 0) (batch 1 975))
+  pub took-debit-added : Tells (Took.Post tt) (state InBatch 2 noSale, (adjustmentRead oneDebit, tt)) (inBatchWith 3 noSale (adjusted 0 0) (adjusted 1 975) (batchOf 1 0 975)) (inBatchWith 3 noSale (adjusted 0 0) (adjusted 1 975) (batch 1 975))
+  pub took-below-zero : Tells (Took.Post tt) (state InBatch 2 noSale, (adjustmentRead oneDebit, tt)) (inBatchWith 3 noSale (adjusted 0 0) (adjusted 1 975) (batchOf 1 0 975)) (state (Refused (refusal TrailerDisagrees 3 132)) 2 noSale)
   -- `feed`: a sale whose amounts disagree added; L9's sum not compared; a refused state that goes on
   pub feed : OneAnswer Feed.Post
   pub feed-disagreeing : Tells (Feed.Post (one κ)) (state InBatch 2 noSale, (lent (at 77 "00000009751" sale), tt)) (state (Refused (refusal AmountsDisagree 3 77)) 2 noSale) (state InBatch 3 oneSale)
   pub feed-l9 : Tells (Feed.Post (one κ)) (state InBatch 3 oneSale, (lent (at 9 "00000000009750" l9), tt)) (state (Refused (refusal TrailerDisagrees 4 9)) 3 oneSale) (record { stage = BetweenBatches; edition = 2; numbers = numbers 4 1 oneSale; batch = batch 1 10000 })
   pub feed-refused : Tells (Feed.Post (one κ)) (state (Refused (refusal KindUnknown 2 1)) 2 noSale, (lent sale, tt)) (state (Refused (refusal KindUnknown 2 1)) 2 noSale) (state InBatch 3 oneSale)
+  -- a trailer that says the absolute value of a sum below zero; one that says the sum
+  pub feed-absolute :
+      Tells (Feed.Post (one κ)) (inBatchWith 3 noSale (adjusted 0 0) (adjusted 1 975) (batchOf 1 0 975), (lent (at 9 "00000000000975" l9), tt))
+      (record { stage = Refused (refusal TrailerDisagrees 4 9); edition = 2; numbers = numbersWith 3 0 noSale (adjusted 0 0) (adjusted 1 975); batch = batchOf 1 0 975 })
+      (record { stage = BetweenBatches; edition = 2; numbers = numbersWith 4 1 noSale (adjusted 0 0) (adjusted 1 975); batch = batchOf 1 0 975 })
+  pub feed-difference :
+      Tells (Feed.Post (one κ)) (inBatchWith 3 oneSale (adjusted 0 0) (adjusted 1 975) (batchOf 1 10000 975), (lent (at 9 "00000000009025" l9), tt))
+      (record { stage = BetweenBatches; edition = 2; numbers = numbersWith 4 1 oneSale (adjusted 0 0) (adjusted 1 975); batch = batchOf 1 10000 975 })
+      (record { stage = Refused (refusal TrailerDisagrees 4 9); edition = 2; numbers = numbersWith 3 0 oneSale (adjusted 0 0) (adjusted 1 975); batch = batchOf 1 10000 975 })
   -- `take_line`: a piece without CR taken for a record; the CR taken for a part of the record
   pub take-line : OneAnswer TakeLine.Post
   pub line-without-cr : Tells (TakeLine.Post (one κ)) (state InBatch 2 noSale, (lent sale, tt)) (state (Refused (refusal NoLineEnd 3 0)) 2 noSale) (state InBatch 3 oneSale)
@@ -80,6 +110,10 @@ pub record CardFile (κ : Lft) : Type 0 where
   pub check-258 : Tells (Check.Post (one κ)) (258, (lent cardFile, tt)) (refused (refusal EditionUnknown 0 0)) (accepted 5 1 oneSale)
   pub check-version : Tells (Check.Post (one κ)) (1, (lent (fileOf (at 54 "7" sale)), tt)) (refused (refusal ValueNotAllowed 3 54)) (accepted 5 1 oneSale)
   pub check-behind-a9 : Tells (Check.Post (one κ)) (2, (lent (cardFile ++ ascii "\n"), tt)) (refused (refusal BytesAfterTheEnd 6 0)) (accepted 5 1 oneSale)
+  -- a file with an adjustment: refused as unknown; the credit forgotten; an adjustment before L0 taken
+  pub check-adjusted : Tells (Check.Post (one κ)) (2, (lent adjustedFile, tt)) (Accepted (numbersWith 6 1 oneSale (adjusted 1 975) (adjusted 0 0))) (refused (refusal KindUnknown 4 1))
+  pub check-credit : Tells (Check.Post (one κ)) (2, (lent adjustedFile, tt)) (Accepted (numbersWith 6 1 oneSale (adjusted 1 975) (adjusted 0 0))) (accepted 6 1 oneSale)
+  pub check-before-l0 : Tells (Check.Post (one κ)) (2, (lent (joined (a0 ∷ at 188 "000002" credit ∷ at 3 "000003000003" a9 ∷ [])), tt)) (refused (refusal KindNotAllowedHere 2 0)) (Accepted (numbersWith 3 0 noSale (adjusted 1 975) (adjusted 0 0)))
   -- `check_with_room`: 2 before 1; the file's own refusal before 2; a byte more asked for than is needed
   pub with-room : OneAnswer WithRoom.Post
   pub with-room-edition : Tells (WithRoom.Post (one κ)) (3, (lent cardFile, (52, (0, tt)))) (refused (refusal EditionUnknown 0 0)) (refused (refusal OutputTooShort 0 0))

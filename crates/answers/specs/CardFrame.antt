@@ -28,7 +28,7 @@ abbrev batchHeader : ℕ → L0
 batchHeader nseq = record { nseq = nseq }
 
 abbrev batchTrailer : ℕ → ℕ → ℕ → L9
-batchTrailer count gross nseq = record { count = count; gross = gross; nseq = nseq }
+batchTrailer count sum nseq = record { count = count; sum = sum; nseq = nseq }
 
 abbrev trailer : ℕ → ℕ → A9
 trailer count nseq = record { count = count; nseq = nseq }

@@ -9,9 +9,9 @@ use Rattle.card_run.specs.declared.answer.CardAnswer.the-variants.{Refused}
 use Rattle.sale_field.specs.declared.FieldAnswer.the-variants.{Offered, Refused as notOffered}
 use Rattle.day_sheet.specs.declared.sheet.Sheet.{Sheet}
 use Rattle.day_sheet.specs.Layout.{bytesOf}
-use Rattle.answers.specs.CardRun.{refusal, oneSale, accepted}
+use Rattle.answers.specs.CardRun.{numbers as numbersOf, refusal, oneSale, accepted}
 use Rattle.demands.specs.ExampleFile.{fileOf}
-use Rattle.answers.specs.Samples.{at, sale, cardFile, room}
+use Rattle.answers.specs.Samples.{at, sale, credit, cardFile, room, blankCard}
 use Rattle.card_run.specs.declared.answer.Accepted.{Accepted}
 use base.Fml.{Lft}
 use Rattle.card_mask.proofs.mask_lines.Reads as MaskLines
@@ -32,7 +32,7 @@ daySheet edition = record { edition = edition; date = 20240229; movement = 1; ba
 
 -- the example's numbers
 abbrev numbers : Accepted
-numbers = record { date = 20240229; movement = 1; records = 5; batches = 1; totals = oneSale }
+numbers = numbersOf 5 1 oneSale
 
 pub record CardMask (κ : Lft) : Type 0 where
   -- `mask_lines`: the unfinished record counted; nothing masked
@@ -45,6 +45,15 @@ pub record CardMask (κ : Lft) : Type 0 where
       TellsOutcome (MaskLines.Post (one κ)) (lent (sale ++ ascii "\r\n"), tt)
       (record { answer = 201; exit = (lent (maskedSale ++ ascii "\r\n"), tt) })
       (record { answer = 201; exit = (lent (sale ++ ascii "\r\n"), tt) })
+  -- of an adjustment: its card unmasked; masked where a sale's card stands; a blank card masked
+  pub lines-adjustment :
+      TellsOutcome (MaskLines.Post (one κ)) (lent (credit ++ ascii "\r\n"), tt)
+      (record { answer = 195; exit = (lent (at 163 "000123456******3456" credit ++ ascii "\r\n"), tt) })
+      (record { answer = 195; exit = (lent (credit ++ ascii "\r\n"), tt) })
+  pub lines-blank-card :
+      TellsOutcome (MaskLines.Post (one κ)) (lent (at 163 blankCard credit ++ ascii "\r\n"), tt)
+      (record { answer = 195; exit = (lent (at 163 blankCard credit ++ ascii "\r\n"), tt) })
+      (record { answer = 195; exit = (lent (at 163 "      *********    " credit ++ ascii "\r\n"), tt) })
   -- `mask`: no masking; a refused file's output written; a shorter output filled as far as it goes; 2 before 1
   pub mask : OneOutcome (λ κs s. now (s .1 .1 .0)) Mask.Post
   pub mask-none :
@@ -63,10 +72,11 @@ pub record CardMask (κ : Lft) : Type 0 where
       TellsOutcome (Mask.Post (two κ)) (3, (lent cardFile, (lent (room 201), tt)))
       (record { answer = Refused (refusal EditionUnknown 0 0); exit = (3, (lent cardFile, (lent (room 201), tt))) })
       (record { answer = Refused (refusal OutputTooShort 0 0); exit = (3, (lent cardFile, (lent (room 201), tt))) })
-  -- `field_answer`: the card offered; a longer record taken; 14 before 4
+  -- `field_answer`: the card offered; a longer record taken; an adjustment taken; 14 before 4
   pub field-answer : OneAnswer FieldAnswer.Post
   pub field-card : Tells (FieldAnswer.Post (one κ)) (lent sale, (13, tt)) (notOffered (refusal FieldNotOffered 0 0)) Offered
   pub field-longer : Tells (FieldAnswer.Post (one κ)) (lent (at 200 "0" sale), (1, tt)) (notOffered (refusal WrongWidth 1 0)) Offered
+  pub field-adjustment : Tells (FieldAnswer.Post (one κ)) (lent credit, (1, tt)) (notOffered (refusal KindUnknown 1 1)) Offered
   pub field-order : Tells (FieldAnswer.Post (one κ)) (lent (ascii "L0"), (13, tt)) (notOffered (refusal KindUnknown 1 1)) (notOffered (refusal FieldNotOffered 0 0))
   -- `field`: the card handed back; the field behind it; other bytes with the same content
   pub field : OnePart Field.Post

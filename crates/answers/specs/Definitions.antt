@@ -13,14 +13,17 @@ use Rattle.card_kept.specs.Kept.{Kept}
 use Rattle.payroll_kept.specs.Kept as payroll
 use Rattle.demands.specs.Feeding.{upTo}
 use Rattle.card_kept.specs.FirstFault.{rulesAt}
-use Rattle.demands.specs.ExampleFile.{a0, l0, l9, a9, fileOf}
+use Rattle.demands.specs.ExampleFile.{a0, l0, l9, a9, fileOf, creditFileOf}
 use Rattle.demands.specs.HiddenDigits.{hiddenIn, TwinFiles}
 use Rattle.demands.specs.LentBuffers.{LeftAlone}
 use Rattle.answers.specs.CardRun.{state, refusal, noSale, oneSale, accepted}
 use Rattle.answers.specs.Samples.{
   at,
   sale,
+  debit,
+  blankCard,
   cardFile,
+  adjustedFile,
   fileHeader,
   batchHeader,
   payment,
@@ -36,6 +39,11 @@ pub record Definitions : Type 0 where
   pub kept-first-instalment : Kept 2 (fileOf (at 107 "0102" (at 123 "000000100000000000025000000009750" sale)))
   pub kept-disagreeing : Kept 2 (fileOf (at 77 "00000009751" sale)) → ⊥
   pub kept-by-net : Kept 2 (joined (a0 ∷ l0 ∷ sale ∷ at 9 "00000000009750" l9 ∷ a9 ∷ [])) → ⊥
+  -- with an adjustment: a blank card refused; the absolute value of a sum below zero kept, and one cut off at zero
+  pub kept-adjusted : Kept 2 adjustedFile
+  pub kept-blank-card : Kept 2 (creditFileOf blankCard)
+  pub kept-absolute : Kept 2 (joined (a0 ∷ l0 ∷ debit ∷ at 9 "00000000000975" l9 ∷ a9 ∷ [])) → ⊥
+  pub kept-zero : Kept 2 (joined (a0 ∷ l0 ∷ debit ∷ at 9 "00000000000000" l9 ∷ a9 ∷ [])) → ⊥
   -- `Kept` of a payroll file: a Z in a file that is no return, a batch trailer that does not count itself
   pub kept-payroll : payroll.Kept payrollFile
   pub kept-z : payroll.Kept (payrollFileOf (at 14 "Z" payment)) → ⊥
@@ -44,6 +52,9 @@ pub record Definitions : Type 0 where
   pub hidden-from : (hiddenIn cardFile 192 ≡ false) × (hiddenIn cardFile 193 ≡ true)
   pub hidden-to : (hiddenIn cardFile 198 ≡ true) × (hiddenIn cardFile 199 ≡ false)
   pub twins-open-digit : TwinFiles cardFile (fileOf (at 88 "0001234567890123457" sale)) → ⊥
+  -- the places of an adjustment's card
+  pub hidden-adjustment-from : (hiddenIn adjustedFile 468 ≡ false) × (hiddenIn adjustedFile 469 ≡ true)
+  pub hidden-adjustment-to : (hiddenIn adjustedFile 474 ≡ true) × (hiddenIn adjustedFile 475 ≡ false)
   -- `rulesAt`: the place judged behind the width
   pub rules-place-first : firstBroken (rulesAt (state BetweenBatches 1 noSale) (at 200 "0" sale)) ≡ faultAt KindNotAllowedHere 0
   -- `upTo`: a refusal that shows a record late, and one that shows before its record

@@ -9,6 +9,7 @@ use Rattle.answers.specs.Pan.{Pan}
 use Rattle.answers.specs.Lines.{Lines}
 use Rattle.answers.specs.CardContent.{CardContent}
 use Rattle.answers.specs.CardSale.{CardSale}
+use Rattle.answers.specs.CardAdjustment.{CardAdjustment}
 use Rattle.answers.specs.CardFrame.{CardFrame}
 use Rattle.answers.specs.CardRecord.{CardRecord}
 use Rattle.answers.specs.CardRun.{CardRun}
@@ -32,6 +33,7 @@ pub record HeldToAccount : Type 0 where
   pub lines : (κ : Lft) → Lines κ
   pub card-content : (κ : Lft) → CardContent κ
   pub card-sale : (κ : Lft) → CardSale κ
+  pub card-adjustment : (κ : Lft) → CardAdjustment κ
   pub card-frame : (κ : Lft) → CardFrame κ
   pub card-record : (κ : Lft) → CardRecord κ
   pub card-run : CardRun

@@ -5,7 +5,7 @@ use mathlib.Core.List.{List, [], _∷_, _++_}
 use lib.ListN.{length, take, drop, replicate}
 use Rattle.text.specs.Literal.{ascii}
 use Rattle.lines.specs.Lines.{joined}
-use Rattle.demands.specs.ExampleFile.{saleWith, fileOf}
+use Rattle.demands.specs.ExampleFile.{a0, l0, saleWith, adjustment, fileOf}
 
 -- a record with another text at a position, which counts from 1
 abbrev pub at : ℕ → String → List ℕ → List ℕ
@@ -16,6 +16,21 @@ sale = saleWith "0001234567890123456"
 
 abbrev pub cardFile : List ℕ
 cardFile = fileOf sale
+
+-- a credit and a debit in the sale's place, and the file with a credit behind its sale
+abbrev pub credit : List ℕ
+credit = adjustment "1" "0001234567890123456" "000003"
+
+abbrev pub debit : List ℕ
+debit = adjustment "2" "0001234567890123456" "000003"
+
+abbrev pub adjustedFile : List ℕ
+adjustedFile =
+    joined (a0 ∷ l0 ∷ sale ∷ adjustment "1" "0001234567890123456" "000004" ∷ ascii "L900000200000000010975000005" ∷ ascii "A9000006000006" ∷ [])
+
+-- a card of blanks
+abbrev pub blankCard : String
+blankCard = "                   "
 
 -- an output of so many bytes
 abbrev pub room : ℕ → List ℕ

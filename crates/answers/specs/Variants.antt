@@ -35,7 +35,7 @@ use Rattle.demands.specs.Demands.{Demands}
 use Rattle.demands.specs.Examples.{agrees, allAsWritten}
 use Rattle.demands.specs.Feeding.{FedAsWhole, RefusedForGood, BadEdition, AfterAcceptedClose, OnePastTheLast, afterTheEnd}
 use Rattle.demands.specs.HiddenDigits.{hiddenIn}
-use Rattle.demands.specs.HiddenDigitsExample.{oneFile, otherFile}
+use Rattle.demands.specs.HiddenDigitsExample.{oneFile, otherFile, oneCredit, otherCredit}
 use Rattle.demands.specs.InChunks.{cardTaken}
 
 -- a demand, and a variant of it that does not hold
@@ -87,5 +87,6 @@ pub record Variants (d : Demands) : Type 0 where
       ((file : List ℕ) (i : ℕ) → getD (maskedFile file) i 0 ≡ cond (hiddenIn file (i + 1)) 42 (getD file i 0))
   -- one file and itself
   pub twins-that-differ : NotSo (d .twins-that-differ) (oneFile ≡ otherFile)
+  pub credits-that-differ : NotSo (d .credits-that-differ) (oneCredit ≡ otherCredit)
   -- net 9751 agrees
   pub examples-hold : NotSo (d .examples-hold) (allAsWritten (agrees "00000010000" "00000000250" "00000009751" ∷ []) ≡ true)

@@ -7,6 +7,7 @@ use Rattle.answers.proofs.Pan.{pan}
 use Rattle.answers.proofs.Lines.{lines}
 use Rattle.answers.proofs.CardContent.{card-content}
 use Rattle.answers.proofs.CardSale.{card-sale}
+use Rattle.answers.proofs.CardAdjustment.{card-adjustment}
 use Rattle.answers.proofs.CardFrame.{card-frame}
 use Rattle.answers.proofs.CardRecord.{card-record}
 use Rattle.answers.proofs.CardRun.{card-run}
@@ -33,6 +34,7 @@ returns c =
       lines = lines;
       card-content = card-content;
       card-sale = card-sale;
+      card-adjustment = card-adjustment;
       card-frame = card-frame;
       card-record = card-record;
       card-run = card-run;
