@@ -1,5 +1,5 @@
 #!/usr/bin/env python3
-"""Our own cases of card files, written by hand from document 01.
+"""Our own cases of card files, written by hand from document 01 and request Q-7 of document 02.
 
     tests/card_cases.py           write the files below
     tests/card_cases.py --list    and print where in `stdout` each case stands, its name and its answer
@@ -12,14 +12,15 @@ and what stands from the line `own` on in crates/card_cases/stdout: the lines of
 outside cases' lines are repeated too, those of the files given record by record, those of what no file of cases can say (src/limits.rt), and those of
 the field question.
 
-A case is a name, how its file is built, and the line that document 01 gives it. The lines are written here by hand: nothing in this script
-computes an answer, and no program under test was asked for one. Where a program prints another line, document 01 decides which is right.
+A case is a name, how its file is built, and the line that these documents give it. The lines are written here by hand: nothing in this script
+computes an answer, and no program under test was asked for one. Where a program prints another line, the documents decide which is right.
 
-A line is `A date movement records batches sales gross discount net` or `R number record column`; a fed case has one for each call, `-` for none.
+A line is `A date movement records batches sales gross discount net credits creditnet debits debitnet` or `R number record column`; a fed case has
+one for each call, `-` for none.
 Behind the answer of a file that is cut in two at every place stands how many cuts have that answer: as many as the file has bytes, and one.
 """
 import field_cases
-from records import A0, A9, ACCEPTED, CRLF, CV, FIVE, L0, L9, numbered, put, sale, whole
+from records import A0, A9, ACCEPTED, ADJUSTED, AJ, CRLF, CV, DEBIT, FIVE, L0, L9, adjustment, file_of, numbered, put, sale, whole
 from stored import cut_at_every_place, number, outside, run, write_cases, write_stdout
 
 # ---- How a file is built -------------------------------------------------------------------------------------------------------------------
@@ -59,16 +60,16 @@ def feed(name, calls, *answers, edition=2):
 
 card("an empty file", b"", "R 12 1 0")
 card("an empty file, edition 1", b"", "R 12 1 0", edition=1)
-card("five records", FIVE, "A 20231115 000042 5 1 1 10000 250 9750")
-card("five records, edition 1", FIVE, "A 20231115 000042 5 1 1 10000 250 9750", edition=1)
+card("five records", FIVE, "A 20231115 000042 5 1 1 10000 250 9750 0 0 0 0")
+card("five records, edition 1", FIVE, "A 20231115 000042 5 1 1 10000 250 9750 0 0 0 0", edition=1)
 card("CV numbered 000004", sale(put(CV, 194, b"000004")), "R 9 3 194")
 card("capture 7 under edition 1", sale(put(CV, 54, b"7")), "R 8 3 54", edition=1)
 card("capture 7 under edition 2", sale(put(CV, 54, b"7")), ACCEPTED)
 card("net 9751", sale(put(CV, 77, b"00000009751")), "R 10 3 77")
-card("20240229 is a date", head(put(A0, 9, b"20240229")), "A 20240229 000042 5 1 1 10000 250 9750")
+card("20240229 is a date", head(put(A0, 9, b"20240229")), "A 20240229 000042 5 1 1 10000 250 9750 0 0 0 0")
 card("20230229 is none", head(put(A0, 9, b"20230229")), "R 8 1 9")
 card("19991231 is none", head(put(A0, 9, b"19991231")), "R 8 1 9")
-card("20991231 is a date", head(put(A0, 9, b"20991231")), "A 20991231 000042 5 1 1 10000 250 9750")
+card("20991231 is a date", head(put(A0, 9, b"20991231")), "A 20991231 000042 5 1 1 10000 250 9750 0 0 0 0")
 
 # ---- Editions: 1 comes before everything ----------------------------------------------------------------------------------------------------
 
@@ -97,20 +98,20 @@ THIRD_OF_3 = numbered(put(THIRD, 107, b"03" b"03" b"000000000073" b"00000009999"
 L9_OF_3 = b"L9" b"000003" b"00000000030000" b"000006"
 A9_OF_7 = b"A9" b"000007" b"000007"
 card("the instalments' amounts are added, not the sale's", whole(A0, L0, FIRST_OF_3, SECOND_OF_3, THIRD_OF_3, L9_OF_3, A9_OF_7),
-     "A 20231115 000042 7 1 3 30000 750 29250")
+     "A 20231115 000042 7 1 3 30000 750 29250 0 0 0 0")
 card("L9 with the sale's amount once per instalment",
      whole(A0, L0, FIRST_OF_3, SECOND_OF_3, THIRD_OF_3, put(L9_OF_3, 9, b"00000000090000"), A9_OF_7), "R 11 6 9")
 ONE_OF_1 = put(CV, 107, b"01" b"01" b"000000000071" b"00000004000" b"00000000100" b"00000003900")
-card("1 of 1 is an instalment", whole(A0, L0, ONE_OF_1, put(L9, 9, b"00000000004000"), A9), "A 20231115 000042 5 1 1 4000 100 3900")
+card("1 of 1 is an instalment", whole(A0, L0, ONE_OF_1, put(L9, 9, b"00000000004000"), A9), "A 20231115 000042 5 1 1 4000 100 3900 0 0 0 0")
 card("1 of 1, and L9 with the sale's amount", whole(A0, L0, ONE_OF_1, L9, A9), "R 11 4 9")
-card("an instalment of nothing", whole(A0, L0, put(CV, 107, b"99" b"99"), put(L9, 9, b"00000000000000"), A9), "A 20231115 000042 5 1 1 0 0 0")
+card("an instalment of nothing", whole(A0, L0, put(CV, 107, b"99" b"99"), put(L9, 9, b"00000000000000"), A9), "A 20231115 000042 5 1 1 0 0 0 0 0 0 0")
 
 # ---- Batches and sales -----------------------------------------------------------------------------------------------------------------------
 
-card("no batch", whole(A0, b"A9" b"000002" b"000002"), "A 20231115 000042 2 0 0 0 0 0")
-card("a batch of no sale", whole(A0, L0, b"L9" b"000000" b"00000000000000" b"000003", b"A9" b"000004" b"000004"), "A 20231115 000042 4 1 0 0 0 0")
+card("no batch", whole(A0, b"A9" b"000002" b"000002"), "A 20231115 000042 2 0 0 0 0 0 0 0 0 0")
+card("a batch of no sale", whole(A0, L0, b"L9" b"000000" b"00000000000000" b"000003", b"A9" b"000004" b"000004"), "A 20231115 000042 4 1 0 0 0 0 0 0 0 0")
 L0_5, L9_6 = numbered(L0, 5), b"L9" b"000000" b"00000000000000" b"000006"
-card("two batches, the second of no sale", whole(A0, L0, CV, L9, L0_5, L9_6, A9_OF_7), "A 20231115 000042 7 2 1 10000 250 9750")
+card("two batches, the second of no sale", whole(A0, L0, CV, L9, L0_5, L9_6, A9_OF_7), "A 20231115 000042 7 2 1 10000 250 9750 0 0 0 0")
 card("L9 counts the sales of its own batch", whole(A0, L0, CV, L9, L0_5, put(L9_6, 3, b"000001"), A9_OF_7), "R 11 6 3")
 card("L9 sums the sales of its own batch", whole(A0, L0, CV, L9, L0_5, put(L9_6, 9, b"00000000010000"), A9_OF_7), "R 11 6 9")
 card("L9 sums gross, not net", batch_end(put(L9, 9, b"00000000009750")), "R 11 4 9")
@@ -118,7 +119,7 @@ card("A9 counts itself", end(put(A9, 3, b"000004")), "R 11 5 3")
 for launch_type in (b"0", b"1", b"2"):
     card("launch type %s counts and sums" % launch_type.decode(), sale(put(CV, 44, launch_type)), ACCEPTED)
 TOP = put(CV, 55, b"99999999999" b"00000000000" b"99999999999")
-card("the largest amount", whole(A0, L0, TOP, put(L9, 9, b"00099999999999"), A9), "A 20231115 000042 5 1 1 99999999999 0 99999999999")
+card("the largest amount", whole(A0, L0, TOP, put(L9, 9, b"00099999999999"), A9), "A 20231115 000042 5 1 1 99999999999 0 99999999999 0 0 0 0")
 # 1001 sales of 99999999999 sum to 100099999998999, fifteen digits.
 card("a sum of fifteen digits equals no field: its last fourteen",
      whole(A0, L0, *[numbered(TOP, 3 + i) for i in range(1001)], b"L9" b"001001" b"00099999998999" b"001004", b"A9" b"001005" b"001005"),
@@ -152,8 +153,10 @@ card("3 before 5: CV first, with no line end", CV, "R 3 1 0")
 card("3 before 6: a short A0 with no line end", b"A0", "R 3 1 0")
 
 # 4, 5, 6
-for kind in (b"CP", b"PF", b"AJ", b"CC"):
+for kind, width in ((b"CP", 159), (b"PF", 228), (b"CC", 72)):
     card("4: %s is not read here" % kind.decode(), sale(put(CV, 1, kind)), "R 4 3 1")
+    card("4: %s as wide as it is printed" % kind.decode(), sale(kind.ljust(width, b"0")), "R 4 3 1")
+    card("4: %s as wide as AJ" % kind.decode(), adjustment(put(AJ, 1, kind)), "R 4 3 1")
 card("4: CP behind A0, before 5", whole(A0, numbered(put(CV, 1, b"CP"), 2)), "R 4 2 1")
 card("4: a lower-case kind", sale(put(CV, 1, b"cv")), "R 4 3 1")
 card("4: A1", head(put(A0, 1, b"A1")), "R 4 1 1")
@@ -206,16 +209,16 @@ card("7: a letter in A0's date", head(put(A0, 16, b"x")), "R 7 1 9")
 card("7 before 8: a letter in a day that is none", head(put(A0, 9, b"2023139x")), "R 7 1 9")
 for day in (b"20231301", b"20230001", b"20230431", b"20231100", b"20231132", b"21000101", b"00000000", b"99999999"):
     card("8: %s is no day of A0" % day.decode(), head(put(A0, 9, day)), "R 8 1 9")
-card("the first day", head(put(A0, 9, b"20000101")), "A 20000101 000042 5 1 1 10000 250 9750")
-card("29 February 2000", head(put(A0, 9, b"20000229")), "A 20000229 000042 5 1 1 10000 250 9750")
+card("the first day", head(put(A0, 9, b"20000101")), "A 20000101 000042 5 1 1 10000 250 9750 0 0 0 0")
+card("29 February 2000", head(put(A0, 9, b"20000229")), "A 20000229 000042 5 1 1 10000 250 9750 0 0 0 0")
 card("7: a letter in A0's time", head(put(A0, 22, b"x")), "R 7 1 17")
 card("7 before 8: a letter in a time that is none", head(put(A0, 17, b"99999x")), "R 7 1 17")
 for time in (b"240000", b"236000", b"235960"):
     card("8: %s is no time" % time.decode(), head(put(A0, 17, time)), "R 8 1 17")
 card("the last second", head(put(A0, 17, b"235959")), ACCEPTED)
 card("7: a blank in the movement", head(put(A0, 23, b" ")), "R 7 1 23")
-card("movement 999999", head(put(A0, 23, b"999999")), "A 20231115 999999 5 1 1 10000 250 9750")
-card("movement 000000", head(put(A0, 23, b"000000")), "A 20231115 000000 5 1 1 10000 250 9750")
+card("movement 999999", head(put(A0, 23, b"999999")), "A 20231115 999999 5 1 1 10000 250 9750 0 0 0 0")
+card("movement 000000", head(put(A0, 23, b"000000")), "A 20231115 000000 5 1 1 10000 250 9750 0 0 0 0")
 card("7: byte 31 in the name", head(put(A0, 29, b"\x1f")), "R 7 1 29")
 card("7: byte 127 in the name", head(put(A0, 58, b"\x7f")), "R 7 1 29")
 card("7: a lone CR in the name", head(put(A0, 40, b"\r")), "R 7 1 29")
@@ -321,10 +324,13 @@ WRONG_L0 = ((3, b"20230229", 8), (11, b"US", 8), (13, b"x", 7))
 WRONG_CV = ((3, b"\x1f", 7), (18, b"x", 7), (30, b"20230229", 8), (38, b"240000", 8), (44, b"3", 8), (45, b"21000101", 8), (53, b"X", 8), (54, b"0", 8),
             (55, b"x", 7), (66, b"x", 7), (77, b"x", 7), (88, b"x", 7), (107, b"x", 7), (109, b"x", 7), (111, b"x", 7), (123, b"x", 7), (134, b"x", 7),
             (145, b"x", 7), (156, b"x", 7), (159, b"x", 7), (165, b"\x7f", 7), (176, b"x", 7), (188, b"\x7f", 7), (191, b"\x7f", 7), (194, b"x", 7))
+WRONG_AJ = ((3, b"\x1f", 7), (18, b"x", 7), (30, b"20230229", 8), (38, b"x", 7), (40, b"x", 7), (52, b"00000000", 8), (60, b"240000", 8), (66, b"3", 8),
+            (67, b"21000101", 8), (75, b"8", 8), (76, b"3", 8), (77, b"x", 7), (80, b"\x1f", 7), (110, b"x", 7), (121, b"x", 7), (132, b"x", 7),
+            (143, b"x", 7), (146, b"x", 7), (152, b"\x7f", 7), (163, b" ", 7), (182, b"\x7f", 7), (185, b"\x7f", 7), (188, b"x", 7))
 WRONG_L9 = ((3, b"x", 7), (9, b"x", 7), (23, b"x", 7))
 WRONG_A9 = ((3, b"x", 7), (9, b"x", 7))
 for kind, file, right, place, fields in (("A0", head, A0, 1, WRONG_A0), ("L0", batch_head, L0, 2, WRONG_L0), ("CV", sale, CV, 3, WRONG_CV),
-                                         ("L9", batch_end, L9, 4, WRONG_L9), ("A9", end, A9, 5, WRONG_A9)):
+                                         ("AJ", adjustment, AJ, 3, WRONG_AJ), ("L9", batch_end, L9, 4, WRONG_L9), ("A9", end, A9, 5, WRONG_A9)):
     for (column, text, refusal), (later, later_text, _) in zip(fields, fields[1:]):
         card(f"{kind}: {refusal} at {column} before {later}", file(put(put(right, column, text), later, later_text)), f"R {refusal} {place} {column}")
 card("L0: 8 at 11 before 9", batch_head(put(numbered(L0, 3), 11, b"US")), "R 8 2 11")
@@ -373,6 +379,154 @@ card("A9: 9 before 11", end(b"A9" b"000006" b"000006"), "R 9 5 9")
 card("A9: 11", end(put(A9, 3, b"000006")), "R 11 5 3")
 card("A9: 11 before 13", end(put(A9, 3, b"000006")) + b"x", "R 11 5 3")
 
+# ---- Adjustments: where they stand, and the order of refusals -----------------------------------------------------------------------------------
+
+card("an adjustment", adjustment(AJ), ADJUSTED)
+card("an adjustment, edition 1", adjustment(AJ), ADJUSTED, edition=1)
+card("AJ, 13: after the end", FIVE + whole(AJ), "R 13 6 0")
+card("AJ, 12: the file ends behind it", whole(A0, L0, AJ), "R 12 4 0")
+card("AJ, 3: an LF in its description", adjustment(put(AJ, 90, b"\n")), "R 3 3 0")
+card("AJ, 3 before 5: first, with no line end", AJ, "R 3 1 0")
+card("AJ, 4: a lower-case kind", adjustment(put(AJ, 1, b"aj")), "R 4 3 1")
+card("AJ, 4 before 5: AK behind A0", whole(A0, numbered(put(AJ, 1, b"AK"), 2)), "R 4 2 1")
+card("AJ, 5: first", whole(numbered(AJ, 1)), "R 5 1 0")
+card("AJ, 5: behind A0", whole(A0, numbered(AJ, 2)), "R 5 2 0")
+card("AJ, 5: between batches", whole(A0, L0, CV, L9, numbered(AJ, 5), numbered(L0, 6)), "R 5 5 0")
+card("AJ, 5: behind the last batch", whole(A0, L0, AJ, put(L9, 9, b"00000000002925"), numbered(AJ, 5), numbered(A9, 6)), "R 5 5 0")
+card("AJ, 5 before 6: two bytes behind A0", whole(A0, b"AJ"), "R 5 2 0")
+card("AJ, 5 before 6: wide and first", whole(numbered(AJ, 1) + b"0"), "R 5 1 0")
+card("AJ, 5 before 7: a letter in its NSU, behind A0", whole(A0, put(numbered(AJ, 2), 40, b"x")), "R 5 2 0")
+card("AJ, 6: two bytes", adjustment(b"AJ"), "R 6 3 0")
+card("AJ, 6: one short", adjustment(AJ[:192]), "R 6 3 0")
+card("AJ, 6: one wide", adjustment(AJ + b"0"), "R 6 3 0")
+card("AJ, 6: as wide as CV", adjustment(AJ + b"000003"), "R 6 3 0")
+card("AJ, 6: a CV but for its kind", sale(put(CV, 1, b"AJ")), "R 6 3 0")
+card("6: a CV that is an AJ but for its kind", adjustment(put(AJ, 1, b"CV")), "R 6 3 0")
+card("AJ, 6 before 7: one short with byte 31 in its store", adjustment(put(AJ, 3, b"\x1f")[:192]), "R 6 3 0")
+card("AJ, 6 before 7: one wide with byte 31 in its store", adjustment(put(AJ, 3, b"\x1f") + b"0"), "R 6 3 0")
+card("AJ, 7 at 185 before 9", adjustment(put(AJ, 187, b"\x7f" b"000004")), "R 7 3 185")
+card("AJ, 8 at 76 before 9", adjustment(put(numbered(AJ, 4), 76, b"3")), "R 8 3 76")
+card("AJ, 7 at 188 before 10", adjustment(put(put(AJ, 188, b"x"), 142, b"6")), "R 7 3 188")
+card("AJ, 9: numbered 000004", adjustment(numbered(AJ, 4)), "R 9 3 188")
+card("AJ, 9: numbered as the record before", adjustment(numbered(AJ, 2)), "R 9 3 188")
+card("AJ, 9 before 10", adjustment(put(numbered(AJ, 4), 142, b"6")), "R 9 3 188")
+card("AJ, 10: net one more", adjustment(put(AJ, 142, b"6")), "R 10 3 132")
+card("AJ, 10: net one less", adjustment(put(AJ, 142, b"4")), "R 10 3 132")
+card("AJ, 10: gross one more", adjustment(put(AJ, 120, b"1")), "R 10 3 132")
+card("AJ, 10: discount one more", adjustment(put(AJ, 131, b"6")), "R 10 3 132")
+card("AJ, 10: net above gross", adjustment(put(AJ, 110, b"00000000000" b"00000000001" b"99999999999")), "R 10 3 132")
+card("AJ, 10: a debit's", file_of((2, 8050, CV, put(DEBIT, 142, b"1"))), "R 10 4 132")
+card("AJ, 10, the last rule, before the next record's faults", whole(A0, L0, put(AJ, 142, b"6"), b"L9"), "R 10 3 132")
+
+# ---- Adjustments: each field's edges --------------------------------------------------------------------------------------------------------------
+
+# N: the bytes next to the digits at either end, and blanks, which are no zeros in an optional field either
+for first, last in ((18, 29), (38, 39), (40, 51), (77, 79), (110, 120), (121, 131), (132, 142), (143, 145), (146, 151), (188, 193)):
+    card(f"AJ, 7 at {first}, first", adjustment(put(AJ, first, b"/")), f"R 7 3 {first}")
+    card(f"AJ, 7 at {first}, last", adjustment(put(AJ, last, b":")), f"R 7 3 {first}")
+    card(f"AJ, 7 at {first}: blanks", adjustment(put(AJ, first, b" " * (last - first + 1))), f"R 7 3 {first}")
+for first, last in ((18, 29), (38, 39), (40, 51), (77, 79), (143, 145), (146, 151)):
+    for digit in (b"0", b"9"):
+        card(f"AJ, {digit.decode()} all over {first}", adjustment(put(AJ, first, digit * (last - first + 1))), ADJUSTED)
+
+# AN
+for first, last in ((3, 17), (80, 109), (152, 162), (182, 184), (185, 187)):
+    card(f"AJ, 7 at {first}: byte 31, first", adjustment(put(AJ, first, b"\x1f")), f"R 7 3 {first}")
+    card(f"AJ, 7 at {first}: byte 127, last", adjustment(put(AJ, last, b"\x7f")), f"R 7 3 {first}")
+    card(f"AJ, bytes 32 and 126 at {first}", adjustment(put(put(AJ, first, b" "), last, b"~")), ADJUSTED)
+    card(f"AJ, blanks at {first}", adjustment(put(AJ, first, b" " * (last - first + 1))), ADJUSTED)
+
+# The three days, of which the first is optional, and the time
+for first, zeros in ((30, ADJUSTED), (52, "R 8 3 52"), (67, "R 8 3 67")):
+    card(f"AJ, zeros at {first}", adjustment(put(AJ, first, b"00000000")), zeros)
+    for text in (b"20000101", b"20240229", b"20991231"):
+        card(f"AJ, {text.decode()} at {first}", adjustment(put(AJ, first, text)), ADJUSTED)
+    for text in (b"00000001", b"10000000", b"19991231", b"20230229", b"20231301", b"21000101"):
+        card(f"AJ, 8 at {first}: {text.decode()}", adjustment(put(AJ, first, text)), f"R 8 3 {first}")
+    for text in (b"/0231114", b"2023111:", b"        ", b"0000000 ", b" 0000000", b"2023    "):
+        card(f"AJ, 7 at {first}: '{text.decode()}'", adjustment(put(AJ, first, text)), f"R 7 3 {first}")
+    card(f"AJ, 7 before 8 at {first}", adjustment(put(AJ, first, b"9999999x")), f"R 7 3 {first}")
+for text in (b"000000", b"235959"):
+    card("AJ, %s is a time" % text.decode(), adjustment(put(AJ, 60, text)), ADJUSTED)
+for text in (b"240000", b"236000", b"235960"):
+    card("AJ, 8 at 60: %s" % text.decode(), adjustment(put(AJ, 60, text)), "R 8 3 60")
+for text in (b"/01500", b"10150:", b"      ", b"00000 ", b"99999x"):
+    card("AJ, 7 at 60: '%s'" % text.decode(), adjustment(put(AJ, 60, text)), "R 7 3 60")
+
+# The closed sets: launch type, capture, type of adjustment
+for launch_type in (b"0", b"1", b"2"):
+    card("AJ, launch type %s" % launch_type.decode(), adjustment(put(AJ, 66, launch_type)), ADJUSTED)
+for capture in (b"1", b"2", b"3", b"4", b"5", b"6", b"9"):
+    card("AJ, capture %s" % capture.decode(), adjustment(put(AJ, 75, capture)), ADJUSTED)
+    card("AJ, capture %s under edition 1" % capture.decode(), adjustment(put(AJ, 75, capture)), ADJUSTED, edition=1)
+card("AJ, capture 7 under edition 2", adjustment(put(AJ, 75, b"7")), ADJUSTED)
+card("AJ, 8 at 75: capture 7 under edition 1", adjustment(put(AJ, 75, b"7")), "R 8 3 75", edition=1)
+card("AJ, 8 at 75: capture 8 under edition 1", adjustment(put(AJ, 75, b"8")), "R 8 3 75", edition=1)
+card("AJ, 8 at 75: capture 7 of a debit under edition 1", file_of((2, 8050, CV, put(DEBIT, 75, b"7"))), "R 8 4 75", edition=1)
+for column, values in ((66, (b"/", b"3", b"x", b" ", b"\xff")), (75, (b"0", b"8", b":", b"x", b" ")), (76, (b"0", b"3", b"x", b" ", b"\x00"))):
+    for value in values:
+        card(f"AJ, 8 at {column}, not 7: {value}", adjustment(put(AJ, column, value)), f"R 8 3 {column}")
+
+# The card, which is optional: digits and stars, or nineteen blanks
+for text in (b" " * 19, b"*" * 19, b"0" * 19, b"1234567890123456789", b"0000000123456789012", b"000123456****123456", b"0004111111111111112"):
+    card("AJ, a card '%s'" % text.decode(), adjustment(put(AJ, 163, text)), ADJUSTED)
+for text in (b" 004111111111111111", b"000411111111111111 ", b"0004111 11111111111", b"0".ljust(19), b"0".rjust(19), b"*".ljust(19), b"*".rjust(19),
+             b"   4111111111111111", b"///4111111111111111", b"000411111111111111:", b")" * 19, b"+" * 19, b"x".ljust(19),
+             b"\t" * 19, b"\x00" * 19):
+    card(f"AJ, 7 at 163: {text}", adjustment(put(AJ, 163, text)), "R 7 3 163")
+
+# ---- Adjustments: what the trailers cover, and what is answered -----------------------------------------------------------------------------------
+
+MIXED = "A 20231115 000042 7 1 1 10000 250 9750 1 2925 1 1950"
+card("a sale, a credit and a debit", file_of((3, 10975, CV, AJ, DEBIT)), MIXED)
+card("a sale, a credit and a debit, edition 1", file_of((3, 10975, CV, AJ, DEBIT)), MIXED, edition=1)
+card("in another order", file_of((3, 10975, AJ, DEBIT, CV)), MIXED)
+card("below zero on the way is no fault", file_of((3, 10975, DEBIT, AJ, CV)), MIXED)
+for launch_type in (b"0", b"2"):
+    card("launch type %s of adjustments counts and sums" % launch_type.decode(),
+         file_of((3, 10975, CV, put(AJ, 66, launch_type), put(DEBIT, 66, launch_type))), MIXED)
+card("a sale and a debit", file_of((2, 8050, CV, DEBIT)), "A 20231115 000042 6 1 1 10000 250 9750 0 0 1 1950")
+card("a credit without a sale behind it", adjustment(put(put(put(AJ, 18, b"0" * 12), 30, b"0" * 8), 163, b" " * 19)), ADJUSTED)
+card("L9 counts what it has, not CV alone", file_of((1, 10975, CV, AJ, DEBIT)), "R 11 6 3")
+card("L9 counts what it has, not AJ alone", file_of((2, 10975, CV, AJ, DEBIT)), "R 11 6 3")
+card("L9's count before its sum", file_of((1, 10000, CV, AJ, DEBIT)), "R 11 6 3")
+card("A9 counts every record, adjustments too", whole(A0, L0, AJ, put(L9, 9, b"00000000002925"), put(A9, 3, b"000004")), "R 11 5 3")
+for name, total in (("the adjustments' gross", 11000), ("the credit's gross", 11050), ("the debit's gross", 10925), ("the debit added", 14875),
+                    ("no debit", 12925), ("no credit", 8050), ("no adjustment", 10000), ("the credit subtracted", 5125), ("each for the other", 9025),
+                    ("the sale's net", 10725), ("one more", 10976), ("one less", 10974)):
+    card(f"L9's sum: {name}", file_of((3, total, CV, AJ, DEBIT)), "R 11 6 9")
+card("L9's sum: AJ's gross alone", file_of((1, 3000, AJ)), "R 11 4 9")
+card("an instalment and a debit", file_of((2, 2050, ONE_OF_1, DEBIT)), "A 20231115 000042 6 1 1 4000 100 3900 0 0 1 1950")
+EVEN = put(AJ, 76, b"2")  # a debit of 2925, and one of 2926
+OVER = put(EVEN, 110, b"00000002926" b"00000000000" b"00000002926")
+card("a sum of zero", file_of((2, 0, AJ, EVEN)), "A 20231115 000042 6 1 0 0 0 0 1 2925 1 2925")
+card("a sum of zero, the debit first", file_of((2, 0, EVEN, AJ)), "A 20231115 000042 6 1 0 0 0 0 1 2925 1 2925")
+for total in (0, 1, 99999999999999, 5851, 2925, 2926):
+    card(f"one below zero equals no trailer, not {total}", file_of((2, total, AJ, OVER)), "R 11 5 9")
+for total in (0, 1950, 99999999998050):
+    card(f"a debit alone equals no trailer, not {total}", file_of((1, total, DEBIT)), "R 11 4 9")
+NOTHING = put(AJ, 110, b"00000000000" b"00000000000" b"00000000000")
+card("a credit of nothing", file_of((1, 0, NOTHING)), "A 20231115 000042 5 1 0 0 0 0 1 0 0 0")
+card("a debit of nothing", file_of((1, 0, put(NOTHING, 76, b"2"))), "A 20231115 000042 5 1 0 0 0 0 0 0 1 0")
+card("a net of nothing", file_of((1, 0, put(AJ, 110, b"00000003000" b"00000003000" b"00000000000"))), "A 20231115 000042 5 1 0 0 0 0 1 0 0 0")
+TOP_AJ = put(AJ, 110, b"99999999999" b"00000000000" b"99999999999")
+card("the largest adjustment", file_of((1, 99999999999, TOP_AJ)), "A 20231115 000042 5 1 0 0 0 0 1 99999999999 0 0")
+# 1001 credits of 99999999999 and two debits: 100099999998999, fifteen digits, less 199999999998.
+card("fifteen digits on the way are no fault", file_of((1003, 99899999999001, *[TOP_AJ] * 1001, *[put(TOP_AJ, 76, b"2")] * 2)),
+     "A 20231115 000042 1007 1 0 0 0 0 1001 100099999998999 2 199999999998")
+
+# Several batches, each of which starts anew
+card("a batch of each", file_of((1, 10000, CV), (1, 2925, AJ), (2, 8050, CV, DEBIT)), "A 20231115 000042 12 3 2 20000 500 19500 1 2925 1 1950")
+card("what is taken in a batch is not taken in the next", file_of((2, 8050, CV, DEBIT), (1, 2925, AJ)),
+     "A 20231115 000042 9 2 1 10000 250 9750 1 2925 1 1950")
+card("L9 counts the adjustments of its own batch", file_of((2, 8050, CV, DEBIT), (2, 2925, AJ)), "R 11 8 3")
+for total in (975, 10975, 8050):
+    card(f"L9 sums its own batch, not to {total}", file_of((2, 8050, CV, DEBIT), (1, total, AJ)), "R 11 8 9")
+for total in (0, 1950, 8050):
+    card(f"no other batch makes up for a debit, not {total}", file_of((1, 10000, CV), (1, total, DEBIT)), "R 11 7 9")
+card("a batch of nothing behind adjustments", file_of((3, 10975, CV, AJ, DEBIT), (0, 0)),
+     "A 20231115 000042 9 2 1 10000 250 9750 1 2925 1 1950")
+
 # ---- Record by record --------------------------------------------------------------------------------------------------------------------------
 
 R = [A0, L0, CV, L9, A9]
@@ -391,7 +545,7 @@ feed("a record after two accepted closes", R + [CLOSE, CLOSE, L0, CLOSE], "-", "
 feed("a record after A9 is 13, for good", R + [A9, CLOSE, A0], "-", "-", "-", "-", "-", "R 13 6 0", "R 13 6 0", "R 13 6 0")
 feed("13 before 4: an empty record after A9", R + [b"", CLOSE], "-", "-", "-", "-", "-", "R 13 6 0", "R 13 6 0")
 feed("13: a record with an LF after A9", R + [b"XX\n"], "-", "-", "-", "-", "-", "R 13 6 0")
-feed("no batch", [A0, b"A9" b"000002" b"000002", CLOSE], "-", "-", "A 20231115 000042 2 0 0 0 0 0")
+feed("no batch", [A0, b"A9" b"000002" b"000002", CLOSE], "-", "-", "A 20231115 000042 2 0 0 0 0 0 0 0 0 0")
 feed("closed behind A0, and L0 after it", [A0, CLOSE, L0, CLOSE], "-", "R 12 2 0", "R 12 2 0", "R 12 2 0")
 feed("closed behind L0", [A0, L0, CLOSE], "-", "-", "R 12 3 0")
 feed("closed behind CV", [A0, L0, CV, CLOSE], "-", "-", "-", "R 12 4 0")
@@ -408,7 +562,7 @@ feed("capture 7 under edition 2", [A0, L0, put(CV, 54, b"7")], "-", "-", "-")
 feed("10", [A0, L0, put(CV, 87, b"1"), L9], "-", "-", "R 10 3 77", "R 10 3 77")
 feed("an empty record", [b"", A0], "R 4 1 1", "R 4 1 1")
 feed("one byte", [b"C"], "R 4 1 1")
-for kind in (b"CP", b"PF", b"AJ", b"CC"):
+for kind in (b"CP", b"PF", b"CC"):
     feed("%s is not read here" % kind.decode(), [A0, L0, put(CV, 1, kind), CLOSE], "-", "-", "R 4 3 1", "R 4 3 1")
 feed("5 before 6: a short CV first", [b"CV"], "R 5 1 0")
 feed("6: A0 one short", [A0[:74]], "R 6 1 0")
@@ -425,9 +579,41 @@ feed("an LF at the end is one byte more", [A0, L0 + b"\n"], "-", "R 6 2 0")
 feed("two records with their line ends, as one", [whole(A0, L0)], "R 6 1 0")
 feed("a CR as the last byte of A0's NSEQ", [put(A0, 75, b"\r")], "R 7 1 70")
 feed("1A as a record", [A0, b"\x1a"], "-", "R 4 2 1")
-feed("two batches", R[:4] + [L0_5, L9_6, A9_OF_7, CLOSE], *["-"] * 7, "A 20231115 000042 7 2 1 10000 250 9750")
+feed("two batches", R[:4] + [L0_5, L9_6, A9_OF_7, CLOSE], *["-"] * 7, "A 20231115 000042 7 2 1 10000 250 9750 0 0 0 0")
 feed("three instalments", [A0, L0, FIRST_OF_3, SECOND_OF_3, THIRD_OF_3, L9_OF_3, A9_OF_7, CLOSE], *["-"] * 7,
-     "A 20231115 000042 7 1 3 30000 750 29250")
+     "A 20231115 000042 7 1 3 30000 750 29250 0 0 0 0")
+
+
+def fed(file):
+    """The records of a file, and a close."""
+    return file.split(CRLF)[:-1] + [CLOSE]
+
+
+feed("an adjustment", fed(adjustment(AJ)), *["-"] * 5, ADJUSTED)
+feed("an adjustment, edition 1", fed(adjustment(AJ)), *["-"] * 5, ADJUSTED, edition=1)
+feed("an adjustment with a blank card", fed(adjustment(put(AJ, 163, b" " * 19))), *["-"] * 5, ADJUSTED)
+feed("a sale, a credit and a debit", fed(file_of((3, 10975, CV, AJ, DEBIT))), *["-"] * 7, MIXED)
+feed("a debit first: below zero on the way", fed(file_of((3, 10975, DEBIT, AJ, CV))), *["-"] * 7, MIXED)
+feed("a sum of zero", fed(file_of((2, 0, EVEN, AJ))), *["-"] * 6, "A 20231115 000042 6 1 0 0 0 0 1 2925 1 2925")
+feed("a sum below zero is told at the L9", fed(file_of((2, 1, AJ, OVER))), *["-"] * 4, *["R 11 5 9"] * 3)
+feed("a batch of each", fed(file_of((1, 10000, CV), (1, 2925, AJ), (2, 8050, CV, DEBIT))), *["-"] * 12,
+     "A 20231115 000042 12 3 2 20000 500 19500 1 2925 1 1950")
+feed("AJ's gross in the sum", fed(file_of((1, 3000, AJ))), *["-"] * 3, *["R 11 4 9"] * 3)
+feed("AJ first", [numbered(AJ, 1), A0, CLOSE], *["R 5 1 0"] * 3)
+feed("AJ behind A0, then the right records", [A0, numbered(AJ, 2), L0, AJ, CLOSE], "-", *["R 5 2 0"] * 4)
+feed("AJ between batches", R[:4] + [numbered(AJ, 5), CLOSE], *["-"] * 4, *["R 5 5 0"] * 2)
+feed("AJ after A9", R + [numbered(AJ, 6), CLOSE], *["-"] * 5, *["R 13 6 0"] * 2)
+feed("AJ after an accepted close", fed(adjustment(AJ)) + [AJ, CLOSE], *["-"] * 5, ADJUSTED, "R 13 6 0", "R 13 6 0")
+feed("closed behind an AJ", [A0, L0, AJ, CLOSE], "-", "-", "-", "R 12 4 0")
+feed("AJ as wide as CV", [A0, L0, put(CV, 1, b"AJ"), CLOSE], "-", "-", "R 6 3 0", "R 6 3 0")
+feed("AJ, capture 7 under edition 1", [A0, L0, put(AJ, 75, b"7")], "-", "-", "R 8 3 75", edition=1)
+feed("AJ, capture 7 under edition 2", [A0, L0, put(AJ, 75, b"7")], "-", "-", "-")
+feed("AJ, capture 8", [A0, L0, put(AJ, 75, b"8"), CLOSE], "-", "-", "R 8 3 75", "R 8 3 75")
+feed("AJ, zeros in the date that is not optional", [A0, L0, put(AJ, 52, b"00000000"), CLOSE], "-", "-", "R 8 3 52", "R 8 3 52")
+feed("AJ, an LF inside its description is 7, not 3", [A0, L0, put(AJ, 90, b"\n")], "-", "-", "R 7 3 80")
+feed("AJ, a blank card with an LF", [A0, L0, put(AJ, 163, b" " * 18 + b"\n")], "-", "-", "R 7 3 163")
+feed("AJ, a CR LF at its end is two bytes more", [A0, L0, AJ + CRLF], "-", "-", "R 6 3 0")
+feed("AJ, 10", [A0, L0, put(AJ, 142, b"6"), L9, CLOSE], "-", "-", *["R 10 3 132"] * 3)
 
 # ---- What no file of cases can say: editions of more than a byte, and states far into a file ------------------------------------------------
 

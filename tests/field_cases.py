@@ -8,6 +8,7 @@ by hand; only the hash that stands for a part's bytes is computed. No program un
 
 A line is `P length hash` of the part handed back, or `R number record column`.
 """
+from records import AJ
 from stored import hashed, number
 
 # ---- The record's fields, 1 to 26 ------------------------------------------------------------------------------------------------------------
@@ -31,6 +32,8 @@ CASES += [
     ("one byte of a kind", 1, b"C", "R 4 1 1"),
     ("a kind alone", 1, b"CV", "R 6 1 0"),
     ("another kind, of the right width", 2, b"CP" + CV[2:], "R 4 1 1"),
+    ("an adjustment", 2, AJ, "R 4 1 1"),
+    ("an adjustment of the right width", 2, b"AJ" + CV[2:], "R 4 1 1"),
     ("4 before 6 and 14", 13, b"L0", "R 4 1 1"),
     ("198 wide", 26, CV[:-1], "R 6 1 0"),
     ("200 wide", 26, CV + b" ", "R 6 1 0"),

@@ -1,5 +1,5 @@
 #!/usr/bin/env python3
-"""The cases of the file-to-file work, written by hand from document 01.
+"""The cases of the file-to-file work, written by hand from document 01 and request Q-7 of document 02.
 
     tests/file_cases.py
 
@@ -48,6 +48,13 @@ MASKED_DAY = masked(
     (b"0004012888888881881", b"000401288******1881"),
     (b"0000378282246310005", b"00003782*******0005"),
 )
+# The blank card of the last adjustment stays.
+MASKED_ADJUSTED = masked(
+    DATA["adjusted.card"],
+    (b"0004111111111111111", b"000411111******1111"),
+    (b"0004012888888881881", b"000401288******1881"),
+    (b"0000378282246310005", b"00003782*******0005"),
+)
 MASKED_LONG = masked(DATA["long.card"], (b"0004111111111111111", b"000411111******1111"))
 
 
@@ -57,8 +64,9 @@ def hash_of(content):
 
 # ---- What is printed -----------------------------------------------------------------------------------------------------------------------
 
-DAY = b"A 20231115 000042 12 3 4 65990 1650 64340"
-LONG_DAY = b"A 20231115 000042 704 1 700 7000000 175000 6825000"
+DAY = b"A 20231115 000042 12 3 4 65990 1650 64340 0 0 0 0"
+ADJUSTED = b"A 20231115 000043 11 2 2 25000 625 24375 2 4425 1 4875"
+LONG_DAY = b"A 20231115 000042 704 1 700 7000000 175000 6825000 0 0 0 0"
 REFUSED = b"R 9 3 194"
 BAD_EDITION = b"R 1 0 0"
 NO_FILE = b"FILE cannot be opened"
@@ -70,6 +78,8 @@ NO_OUT = b"no OUT\n"
 BEFORE = b"from before\n"
 # DSH, version 1, edition 2, 20231115, 000042, and 3, 4, 65990 (101C6), 1650 (672), 64340 (FB54), high byte first.
 SHEET_IN_HEX = b"445348" b"0001" b"02" b"3230323331313135" b"303030303432" b"00000003" b"00000004" b"00000000000101c6" b"0000000000000672" b"000000000000fb54\n"
+# The same of the day with adjustments, which are not on its sheet: 000043, and 2, 2, 25000 (61A8), 625 (271), 24375 (5F37).
+ADJUSTED_IN_HEX = b"445348" b"0001" b"02" b"3230323331313135" b"303030303433" b"00000002" b"00000002" b"00000000000061a8" b"0000000000000271" b"0000000000005f37\n"
 
 READ_AGAIN = b"A 2 20231115 42 3 4 65990 1650 64340"
 NO_SHEET = b"R 15 0 0"
@@ -133,6 +143,7 @@ ask(CARD, b"card, a day", 2, b"day.card", DAY)
 # the second sale was captured by 7
 ask(CARD, b"card, a day under edition 1", 1, b"day.card", b"R 8 4 54")
 ask(CARD, b"card, a day under edition 3", 3, b"day.card", BAD_EDITION)
+ask(CARD, b"card, a day with adjustments", 2, b"adjusted.card", ADJUSTED)
 ask(CARD, b"card, refused", 2, b"refused.card", REFUSED)
 ask(CARD, b"card, three chunks", 2, b"long.card", LONG_DAY)
 ask(CARD, b"card, a line of two chunks", 2, b"wide.card", b"R 6 2 0")
@@ -153,6 +164,7 @@ enter()
 ask(MASK, b"mask, a day, first", 2, b"day.card", DAY, OUT)
 ask(MASK, b"mask, OUT is FILE", 2, OUT, DAY, OUT)
 leave(LINES, MASKED_DAY)
+ask_alone(MASK, b"mask, a day with adjustments", 2, b"adjusted.card", ADJUSTED, LINES, MASKED_ADJUSTED)
 ask_alone(MASK, b"mask, three chunks", 2, b"long.card", LONG_DAY, HASH, hash_of(MASKED_LONG))
 ask_alone(MASK, b"mask, refused", 2, b"refused.card", REFUSED, LINES, NO_OUT)
 ask_alone(MASK, b"mask, refused over an OUT", 2, b"refused.card", REFUSED, LINES, BEFORE, before=BEFORE)
@@ -168,6 +180,7 @@ ask_with_a_folder(MASK, b"mask, OUT is a folder")
 
 ask_alone(SHEET, b"sheet, a day", 2, b"day.card", DAY, HEX, SHEET_IN_HEX)
 ask_alone(SHEET, b"sheet, a day over an OUT", 2, b"day.card", DAY, HEX, SHEET_IN_HEX, before=BEFORE)
+ask_alone(SHEET, b"sheet, a day with adjustments", 2, b"adjusted.card", ADJUSTED, HEX, ADJUSTED_IN_HEX)
 enter()
 ask(SHEET, b"sheet, a day, to be read", 2, b"day.card", DAY, OUT)
 ask(READ, b"sheet read, what was written", 0, OUT, READ_AGAIN)

@@ -14,9 +14,22 @@ SALE = dict(store=b"POSTO AURORA", nsu=1, date=20231114, time=101500, launch=1, 
             product_code=b"010", **NO_INSTALMENT)
 
 
-def payable_gross(sale):
-    """The instalment's gross where there is an instalment, else the sale's."""
-    return sale["instalment_gross"] if sale["instalments"] else sale["gross"]
+CREDIT, DEBIT = 1, 2
+
+# For the sale above. One for no sale has original_nsu=0, original_date=0 and card=BLANK.
+ADJUSTMENT = dict(store=b"POSTO AURORA", original_nsu=1, original_date=20231114, instalment=0, nsu=9001, date=20231115, time=101500, launch=1,
+                  launch_date=20231215, capture=1, type=CREDIT, reason=7, description=b"VALOR INFORMADO A MENOR", gross=3000, discount=75,
+                  card=b"4111111111111111", bank=422, branch=123, account=b"45678-9", brand=b"001", product_code=b"010")
+BLANK = b" " * 19
+
+
+def in_sum(one):
+    """What a sale or an adjustment adds to L9's sum: a sale its instalment's gross where there is an instalment and else its own, a credit its net;
+    a debit takes its net."""
+    if "reason" in one:
+        net = one["gross"] - one["discount"]
+        return net if one["type"] == CREDIT else -net
+    return one["instalment_gross"] if one["instalments"] else one["gross"]
 
 
 def cv(sale, nseq):
@@ -30,8 +43,18 @@ def cv(sale, nseq):
     return made
 
 
+def aj(adjustment, nseq):
+    made = (b"AJ%-15b%012d%08d%02d%012d%08d%06d%d%08d%d%d%03d%-30b%011d%011d%011d%03d%06d%-11b%b%3b%3b%06d" % (
+        adjustment["store"], adjustment["original_nsu"], adjustment["original_date"], adjustment["instalment"], adjustment["nsu"], adjustment["date"],
+        adjustment["time"], adjustment["launch"], adjustment["launch_date"], adjustment["capture"], adjustment["type"], adjustment["reason"],
+        adjustment["description"], adjustment["gross"], adjustment["discount"], adjustment["gross"] - adjustment["discount"], adjustment["bank"],
+        adjustment["branch"], adjustment["account"], adjustment["card"].rjust(19, b"0"), adjustment["brand"], adjustment["product_code"], nseq))
+    assert len(made) == 193
+    return made
+
+
 def card_file(batches, date=20231115, movement=42):
-    """The records of a card file, each with its CR LF. A batch is an iterable of sales; SALE has all their names."""
+    """The records of a card file, each with its CR LF. A batch is an iterable of sales and adjustments; SALE and ADJUSTMENT have all their names."""
     nseq = 1
     a0 = b"A0001.7d%08d083000%06d%-30b0101000777N%06d" % (date, movement, b"REDE DE POSTOS", nseq)
     assert len(a0) == 75
@@ -39,14 +62,14 @@ def card_file(batches, date=20231115, movement=42):
     for batch in batches:
         nseq += 1
         yield b"L0%08dRE%06d" % (date, nseq) + CRLF
-        count = gross = 0
-        for sale in batch:
+        count = total = 0
+        for one in batch:
             nseq += 1
             count += 1
-            gross += payable_gross(sale)
-            yield cv(sale, nseq) + CRLF
+            total += in_sum(one)
+            yield (aj if "reason" in one else cv)(one, nseq) + CRLF
         nseq += 1
-        yield b"L9%06d%014d%06d" % (count, gross, nseq) + CRLF
+        yield b"L9%06d%014d%06d" % (count, total, nseq) + CRLF
     nseq += 1
     yield b"A9%06d%06d" % (nseq, nseq) + CRLF
 

@@ -1,5 +1,5 @@
 #!/usr/bin/env python3
-"""Our own cases of masked copies, written by hand from document 01.
+"""Our own cases of masked copies, written by hand from document 01 and request Q-7 of document 02.
 
     tests/mask_cases.py           write the files below
     tests/mask_cases.py --list    and print where in `stdout` each case stands, its name and its answer
@@ -8,23 +8,29 @@ It writes crates/mask_cases/data/own.cases (edition (1 byte), the output's lengt
 crates/mask_cases/stdout: the lines of files masked whole, and the same lines again for the files in chunks, where the outside cases' lines are repeated
 too. There the cases whose output has no room for the file are left out.
 
-A case is a name, a file, the line that document 01 gives it, and what the output begins with after the call. All of these are written here by
+A case is a name, a file, the line that these documents give it, and what the output begins with after the call. All of these are written here by
 hand; only the hash that stands for the output's bytes in a line is computed. No program under test was asked for an answer.
 
-A line is `A date movement records batches sales gross discount net` or `R number record column`, and the hash of the whole output.
+A line is `A date movement records batches sales gross discount net credits creditnet debits debitnet` or `R number record column`, and the hash of the
+whole output.
 Behind the line of a file that is cut in two at every place stands how many cuts have the same line: as many as the file has bytes, and one.
 """
-from records import A0, A9, ACCEPTED, CV, FIVE, L0, L9, numbered, put, sale, whole
+from records import A0, A9, ACCEPTED, ADJUSTED, AJ, CV, DEBIT, FIVE, L0, L9, adjustment, file_of, numbered, put, sale, whole
 from stored import cut_at_every_place, hashed, number, outside, output, read_cases, run, write_cases, write_stdout
 
 # ---- How a file is built -------------------------------------------------------------------------------------------------------------------
 
-CARD = 88
+CARD, AJ_CARD = 88, 163
 
 
 def carded(card):
     assert len(card) == 19
     return sale(put(CV, CARD, card))
+
+
+def aj_carded(card):
+    assert len(card) == 19
+    return adjustment(put(AJ, AJ_CARD, card))
 
 
 MASKED_FIVE = carded(b"000411111******1111")
@@ -61,8 +67,9 @@ for valid, card, masked in (
         (17, b"0012345678901234567", b"00123456*******4567"),
         (18, b"0123456789012345678", b"0123456********5678"),
         (19, b"1234567890123456789", b"123456*********6789")):
-    case("%d valid characters" % valid, carded(card), ACCEPTED, carded(masked))
-    case("%d valid characters, edition 1" % valid, carded(card), ACCEPTED, carded(masked), edition=1)
+    for edition in (2, 1):
+        case(f"{valid} valid characters, edition {edition}", carded(card), ACCEPTED, carded(masked), edition=edition)
+        case(f"AJ, {valid} valid characters, edition {edition}", aj_carded(card), ADJUSTED, aj_carded(masked), edition=edition)
 
 for name, card, masked in (
         ("stars at hidden places", b"000123456****123456", b"000123456******3456"),
@@ -85,6 +92,9 @@ for name, card, masked in (
         ("thirteen, all zeros but the first", b"0000001000000000000", b"0000001000*****0000"),
         ("nineteen nines", b"9999999999999999999", b"999999*********9999")):
     case(name, carded(card), ACCEPTED, carded(masked))
+    case("AJ, " + name, aj_carded(card), ADJUSTED, aj_carded(masked))
+for edition in (2, 1):
+    case(f"AJ, a blank card stays, edition {edition}", aj_carded(b" " * 19), ADJUSTED, aj_carded(b" " * 19), edition=edition)
 
 # ---- Nowhere else --------------------------------------------------------------------------------------------------------------------------
 
@@ -96,21 +106,44 @@ case("the card's digits in other fields stay", whole(NAMED, L0, TOLD, L9, A9), A
 # A record of 75 bytes in which CV stands, but not in front.
 case("CV inside A0's name", whole(put(A0, 29, b"CV"), L0, CV, L9, A9), ACCEPTED,
      whole(put(A0, 29, b"CV"), L0, put(CV, CARD, b"000411111******1111"), L9, A9))
-case("no batch: nothing to mask", whole(A0, b"A9" b"000002" b"000002"), "A 20231115 000042 2 0 0 0 0 0", whole(A0, b"A9" b"000002" b"000002"))
+case("no batch: nothing to mask", whole(A0, b"A9" b"000002" b"000002"), "A 20231115 000042 2 0 0 0 0 0 0 0 0 0", whole(A0, b"A9" b"000002" b"000002"))
 
 # Several sales, in one batch and in two, each masked by its own card.
 SECOND = numbered(put(CV, CARD, b"1234567890123456789"), 4)
 THIRD = numbered(put(CV, CARD, b"0000000123456789012"), 5)
 case("three sales in a batch", whole(A0, L0, CV, SECOND, THIRD, b"L9" b"000003" b"00000000030000" b"000006", b"A9" b"000007" b"000007"),
-     "A 20231115 000042 7 1 3 30000 750 29250",
+     "A 20231115 000042 7 1 3 30000 750 29250 0 0 0 0",
      whole(A0, L0, put(CV, CARD, b"000411111******1111"), put(SECOND, CARD, b"123456*********6789"), THIRD,
            b"L9" b"000003" b"00000000030000" b"000006", b"A9" b"000007" b"000007"))
 LATER = numbered(put(CV, CARD, b"0000001234567890123"), 6)
 case("a sale in each of two batches", whole(A0, L0, CV, L9, numbered(L0, 5), LATER, numbered(L9, 7), b"A9" b"000008" b"000008"),
-     "A 20231115 000042 8 2 2 20000 500 19500",
+     "A 20231115 000042 8 2 2 20000 500 19500 0 0 0 0",
      whole(A0, L0, put(CV, CARD, b"000411111******1111"), L9, numbered(L0, 5), put(LATER, CARD, b"0000001234*****0123"), numbered(L9, 7),
            b"A9" b"000008" b"000008"))
 case("capture 7 under edition 2", sale(put(CV, 54, b"7")), ACCEPTED, sale(put(put(CV, 54, b"7"), CARD, b"000411111******1111")))
+
+# Adjustments: credits and debits, before and behind sales, each masked by its own card in its own part.
+MASKED_CV = put(CV, CARD, b"000411111******1111")
+CREDIT, MASKED_CREDIT = put(AJ, AJ_CARD, b"0000001234567890123"), put(AJ, AJ_CARD, b"0000001234*****0123")
+TAKEN, MASKED_TAKEN = put(DEBIT, AJ_CARD, b"1234567890123456789"), put(DEBIT, AJ_CARD, b"123456*********6789")
+BLANK = put(AJ, AJ_CARD, b" " * 19)
+case("a sale, a credit and a debit", file_of((3, 10975, CV, CREDIT, TAKEN)), "A 20231115 000042 7 1 1 10000 250 9750 1 2925 1 1950",
+     file_of((3, 10975, MASKED_CV, MASKED_CREDIT, MASKED_TAKEN)))
+case("a debit, a credit and a sale", file_of((3, 10975, TAKEN, CREDIT, CV)), "A 20231115 000042 7 1 1 10000 250 9750 1 2925 1 1950",
+     file_of((3, 10975, MASKED_TAKEN, MASKED_CREDIT, MASKED_CV)))
+case("a blank card between others", file_of((4, 13900, CV, BLANK, CREDIT, TAKEN)), "A 20231115 000042 8 1 1 10000 250 9750 2 5850 1 1950",
+     file_of((4, 13900, MASKED_CV, BLANK, MASKED_CREDIT, MASKED_TAKEN)))
+case("an adjustment in each of two batches", file_of((2, 8050, CV, TAKEN), (1, 2925, CREDIT)),
+     "A 20231115 000042 9 2 1 10000 250 9750 1 2925 1 1950", file_of((2, 8050, MASKED_CV, MASKED_TAKEN), (1, 2925, MASKED_CREDIT)))
+case("AJ, capture 7 under edition 2", adjustment(put(AJ, 75, b"7")), ADJUSTED, adjustment(put(put(AJ, 75, b"7"), AJ_CARD, b"000411111******1111")))
+# Digits stay in every other field of an AJ: store, NSUs, reason, account, brand and product code; and in its description, where a CV has its card.
+TOLD_AJ = AJ
+for position, text in ((3, b"1" * 15), (18, b"1" * 12), (40, b"1" * 12), (77, b"111" + b"4" * 30), (146, b"1" * 17), (182, b"1" * 6)):
+    TOLD_AJ = put(TOLD_AJ, position, text)
+case("AJ, digits in other fields stay", adjustment(TOLD_AJ), ADJUSTED, adjustment(put(TOLD_AJ, AJ_CARD, b"000411111******1111")))
+case("AJ, and where its card is blank", adjustment(put(TOLD_AJ, AJ_CARD, b" " * 19)), ADJUSTED, adjustment(put(TOLD_AJ, AJ_CARD, b" " * 19)))
+case("AJ inside A0's name and a store", whole(put(A0, 29, b"AJ"), L0, put(CV, 3, b"AJ"), L9, A9), ACCEPTED,
+     whole(put(A0, 29, b"AJ"), L0, put(MASKED_CV, 3, b"AJ"), L9, A9))
 
 # ---- The output's length -------------------------------------------------------------------------------------------------------------------
 
@@ -126,6 +159,8 @@ case("2: one byte", FIVE, "R 2 0 0", size=1)
 case("2, edition 1", FIVE, "R 2 0 0", size=343, edition=1)
 case("2 before 12: a file that ends too early", whole(A0, L0, CV), "R 2 0 0", size=297)
 case("2 before 10: a file whose net is 9751", sale(put(CV, 77, b"00000009751")), "R 2 0 0", size=343)
+case("AJ, 2: one shorter", adjustment(AJ), "R 2 0 0", size=337)
+case("AJ, one longer: the last byte stays", adjustment(AJ), ADJUSTED, aj_carded(b"000411111******1111"), size=339)
 case("1 before 2: edition 0", FIVE, "R 1 0 0", size=343, edition=0)
 case("1 before 2: edition 3", FIVE, "R 1 0 0", size=0, edition=3)
 
@@ -141,6 +176,13 @@ for size in (344, 600):
     case("11: A9's count, output %d" % size, whole(A0, L0, CV, L9, b"A9" b"000004" b"000005"), "R 11 5 3", size=size)
     case("4: an unknown kind, output %d" % size, sale(put(CV, 1, b"CP")), "R 4 3 1", size=size)
     case("3: no line end, output %d" % size, FIVE[:-2], "R 3 5 0", size=size)
+    case("AJ, 5: behind A0, output %d" % size, whole(A0, numbered(AJ, 2)), "R 5 2 0", size=size)
+    case("AJ, 6: as wide as CV, output %d" % size, sale(put(CV, 1, b"AJ")), "R 6 3 0", size=size)
+    case("AJ, 7: a card of digits and blanks, output %d" % size, aj_carded(b"   4111111111111111"), "R 7 3 163", size=size)
+    case("AJ, 8: capture 8, output %d" % size, adjustment(put(AJ, 75, b"8")), "R 8 3 75", size=size)
+    case("AJ, 9: numbered 000004, output %d" % size, adjustment(numbered(AJ, 4)), "R 9 3 188", size=size)
+    case("AJ, 10: net 2926, output %d" % size, adjustment(put(AJ, 142, b"6")), "R 10 3 132", size=size)
+    case("AJ, 11: a sum below zero, output %d" % size, file_of((1, 1950, DEBIT)), "R 11 4 9", size=size)
 case("12: behind CV", whole(A0, L0, CV), "R 12 4 0")
 case("12: an empty file, no output", b"", "R 12 1 0", size=0)
 case("12: an empty file, ten bytes of output", b"", "R 12 1 0", size=10)

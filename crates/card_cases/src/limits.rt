@@ -1,6 +1,7 @@
 // What no file of cases can say: editions of more than a byte, and states far into a file. Prints an answer a line.
 ghost use mathlib.Core.Path.{_≡_};
 ghost use Rattle.card_cases.specs.Behind.{behindOf};
+use card_run::adjusted::Adjusted;
 use card_run::answer::Accepted;
 use card_run::answer::CardAnswer;
 use card_run::batch::OpenBatch;
@@ -46,7 +47,7 @@ fn print_editions(file: &[u8]) {
     );
 }
 
-// A state between batches that has taken so many records, without a sale.
+// A state between batches that has taken so many records, without a transaction.
 fn behind(records: u64) -> Running
     ensures { λ r. ⌜ r ≡ behindOf records ⌝ }
 {
@@ -56,6 +57,8 @@ fn behind(records: u64) -> Running
         records,
         batches: 0,
         totals: Totals::none(),
+        credits: Adjusted::none(),
+        debits: Adjusted::none(),
     };
     Running::open(2).moved(Stage::BetweenBatches, numbers, OpenBatch::none())
 }

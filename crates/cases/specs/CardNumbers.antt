@@ -10,7 +10,8 @@ cardRowAsList row =
     let refusal = row .refusal in
     let n = row .numbers in
     let sums = n .totals .amounts in
-    refusal .number ∷ refusal .record-number ∷ refusal .column ∷ n .date ∷ n .movement ∷ n .records ∷ n .batches ∷ n .totals .sales ∷ sums .gross ∷ sums .discount ∷ sums .net ∷ []
+    refusal .number ∷ refusal .record-number ∷ refusal .column ∷ n .date ∷ n .movement ∷ n .records ∷ n .batches ∷ n .totals .sales ∷ sums .gross ∷ sums .discount ∷ sums .net ∷
+    n .credits .count ∷ n .credits .net ∷ n .debits .count ∷ n .debits .net ∷ []
 
 abbrev pub cardNumbers : CardAnswer → List ℕ
 cardNumbers answer = cardRowAsList (cardFileRow answer)

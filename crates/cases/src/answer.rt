@@ -1,5 +1,6 @@
 // Answers as the lines of the cases say them.
 use crate::print;
+use card_run::adjusted::Adjusted;
 use card_run::answer::Accepted;
 use card_run::answer::CardAnswer;
 use refusal::Refusal;
@@ -34,13 +35,15 @@ pub fn print_refusal(refusal: Refusal) {
     next_number(refusal.column);
 }
 
-// `A date movement records batches sales gross discount net`
+// `A date movement records batches sales gross discount net credits creditnet debits debitnet`
 pub fn print_accepted(accepted: Accepted) {
     print::byte(b'A');
     next_day(accepted.date, accepted.movement);
     next_number(accepted.records);
     next_number(accepted.batches);
     next_totals(accepted.totals);
+    next_adjusted(accepted.credits);
+    next_adjusted(accepted.debits);
 }
 
 // A blank before each: the sales, and what they come to.
@@ -50,6 +53,12 @@ pub fn next_totals(totals: Totals) {
     next_number(amounts.gross);
     next_number(amounts.discount);
     next_number(amounts.net);
+}
+
+// A blank before each: the adjustments of one type, and their net.
+fn next_adjusted(adjusted: Adjusted) {
+    next_number(adjusted.count);
+    next_number(adjusted.net);
 }
 
 // The answer of a card file; `-` where there is none yet.

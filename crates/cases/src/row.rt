@@ -7,13 +7,15 @@ use card_run::answer::CardAnswer;
 use refusal::Refusal;
 
 // How many numbers document 01's row of a card file has.
-pub const CARD_NUMBERS: usize = 11;
+pub const CARD_NUMBERS: usize = 15;
 
 fn accepted_row(accepted: Accepted) -> [u64; CARD_NUMBERS]
     ensures { λ r. ⌜ r ≡ cardNumbers (CardAnswer.Accepted accepted) ⌝ }
 {
     let totals = accepted.totals;
     let amounts = totals.amounts;
+    let credits = accepted.credits;
+    let debits = accepted.debits;
     [
         0,
         0,
@@ -26,6 +28,10 @@ fn accepted_row(accepted: Accepted) -> [u64; CARD_NUMBERS]
         amounts.gross,
         amounts.discount,
         amounts.net,
+        credits.count,
+        credits.net,
+        debits.count,
+        debits.net,
     ]
 }
 
@@ -38,6 +44,10 @@ fn refused_row(refusal: Refusal) -> [u64; CARD_NUMBERS]
         number,
         refusal.record,
         refusal.column,
+        0,
+        0,
+        0,
+        0,
         0,
         0,
         0,
