@@ -48,6 +48,7 @@ card-mask κ =
       lines-unfinished = (record { counts = refl; leaves = refl }, λ p. told (λ n. n) refl (p .counts));
       lines-unmasked = (record { counts = refl; leaves = refl }, λ p. told (λ s. getD s 96 0) refl (p .leaves));
       lines-adjustment = (record { counts = refl; leaves = refl }, λ p. told (λ s. getD s 171 0) refl (p .leaves));
+      lines-as-sale = (record { counts = refl; leaves = refl }, λ p. told (λ s. getD s 96 0) refl (p .leaves));
       lines-blank-card = (record { counts = refl; leaves = refl }, λ p. told (λ s. getD s 168 0) refl (p .leaves));
       mask = λ κs a r r' s s' p q. (equal (p .answers) (q .answers), equal (p .leaves) (q .leaves));
       mask-none = (record { answers = refl; leaves = refl }, λ p. told (λ s. getD s 193 0) refl (p .leaves));

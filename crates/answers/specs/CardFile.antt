@@ -83,7 +83,7 @@ pub record CardFile (κ : Lft) : Type 0 where
   pub feed-disagreeing : Tells (Feed.Post (one κ)) (state InBatch 2 noSale, (lent (at 77 "00000009751" sale), tt)) (state (Refused (refusal AmountsDisagree 3 77)) 2 noSale) (state InBatch 3 oneSale)
   pub feed-l9 : Tells (Feed.Post (one κ)) (state InBatch 3 oneSale, (lent (at 9 "00000000009750" l9), tt)) (state (Refused (refusal TrailerDisagrees 4 9)) 3 oneSale) (record { stage = BetweenBatches; edition = 2; numbers = numbers 4 1 oneSale; batch = batch 1 10000 })
   pub feed-refused : Tells (Feed.Post (one κ)) (state (Refused (refusal KindUnknown 2 1)) 2 noSale, (lent sale, tt)) (state (Refused (refusal KindUnknown 2 1)) 2 noSale) (state InBatch 3 oneSale)
-  -- a trailer that says the absolute value of a sum below zero; one that says the sum
+  -- a trailer that says the absolute value of a sum below zero taken; one that says what is left of the sum refused
   pub feed-absolute :
       Tells (Feed.Post (one κ)) (inBatchWith 3 noSale (adjusted 0 0) (adjusted 1 975) (batchOf 1 0 975), (lent (at 9 "00000000000975" l9), tt))
       (record { stage = Refused (refusal TrailerDisagrees 4 9); edition = 2; numbers = numbersWith 3 0 noSale (adjusted 0 0) (adjusted 1 975); batch = batchOf 1 0 975 })

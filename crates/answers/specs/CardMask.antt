@@ -50,6 +50,10 @@ pub record CardMask (κ : Lft) : Type 0 where
       TellsOutcome (MaskLines.Post (one κ)) (lent (credit ++ ascii "\r\n"), tt)
       (record { answer = 195; exit = (lent (at 163 "000123456******3456" credit ++ ascii "\r\n"), tt) })
       (record { answer = 195; exit = (lent (credit ++ ascii "\r\n"), tt) })
+  pub lines-as-sale :
+      TellsOutcome (MaskLines.Post (one κ)) (lent (at 88 "0001234567890123456" credit ++ ascii "\r\n"), tt)
+      (record { answer = 195; exit = (lent (at 163 "000123456******3456" (at 88 "0001234567890123456" credit) ++ ascii "\r\n"), tt) })
+      (record { answer = 195; exit = (lent (at 88 "000123456******3456" credit ++ ascii "\r\n"), tt) })
   pub lines-blank-card :
       TellsOutcome (MaskLines.Post (one κ)) (lent (at 163 blankCard credit ++ ascii "\r\n"), tt)
       (record { answer = 195; exit = (lent (at 163 blankCard credit ++ ascii "\r\n"), tt) })
