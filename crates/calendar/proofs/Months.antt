@@ -1,15 +1,12 @@
 -- What the calendar says of the months, whatever list or rule `daysIn` is made of.
-use Prim.Native.Nat.{ℕ, zero, suc, _-_, _≤_, _<_}
+use Prim.Native.Nat.{ℕ, _≤_, _<_}
 use mathlib.Core.Path.{_≡_, refl}
 use mathlib.Core.Logic.{_⊎_, inl, inr, ⊎-elim}
-use mathlib.Core.List.{List, [], _∷_}
-use mathlib.Core.Bool.{Bool, true, false, cond, _&&_}
+use mathlib.Core.Bool.{Bool, true, false, cond}
 use native.Mathlib.Omega.{arith}
-use lib.ListN.{getD}
-use lib.Dec.{leb, eqb}
-use borrow.Author.Tests.{le-leb, lt-leb, leb-true}
-use Rattle.text.proofs.Alphabets.{both-left, both-right}
-use Rattle.calendar.specs.Month.{leapYear, monthLengths, daysIn}
+use lib.Dec.{eqb}
+use borrow.Author.Tests.{le-leb, lt-leb}
+use Rattle.calendar.specs.Month.{leapYear, isMonth, hasThirty, daysIn}
 
 -- April, June, September and November
 pub thirty : (y : ℕ) → (daysIn y 4 ≡ 30) × (daysIn y 6 ≡ 30) × (daysIn y 9 ≡ 30) × (daysIn y 11 ≡ 30)
@@ -42,18 +39,11 @@ some-month y m h =
 -- no month has more than 31 days
 pub at-most : (y m : ℕ) → daysIn y m ≤ 31
 unfolding daysIn
-at-most y m = picked (leb 1 m && leb m 12) (eqb m 2 && leapYear y) (listed monthLengths (m - 1) refl)
+at-most y m = picked (isMonth m) (hasThirty m) (eqb m 2) (leapYear y)
   where
-    short : List ℕ → Bool
-    short [] = true
-    short (d ∷ l) = leb d 31 && short l
-
-    listed : (l : List ℕ) (i : ℕ) → short l ≡ true → getD l i 0 ≤ 31
-    listed [] i e = omega arith
-    listed (d ∷ l) zero e = leb-true d 31 (both-left (leb d 31) (short l) e)
-    listed (d ∷ l) (suc i) e = listed l i (both-right (leb d 31) (short l) e)
-
-    picked : (p q : Bool) {d : ℕ} → d ≤ 31 → cond p (cond q 29 d) 0 ≤ 31
-    picked false q h = omega arith
-    picked true true h = omega arith
-    picked true false h = h
+    picked : (p q r s : Bool) → cond p (cond q 30 (cond r (cond s 29 28) 31)) 0 ≤ 31
+    picked false q r s = omega arith
+    picked true true r s = omega arith
+    picked true false true true = omega arith
+    picked true false true false = omega arith
+    picked true false false s = omega arith

@@ -1,18 +1,48 @@
--- Leap years and the lengths of months, by the Gregorian rule.
-use Prim.Native.Nat.{ℕ, _-_, _%_}
-use mathlib.Core.List.{List, [], _∷_}
+-- Leap years and the lengths of months, by the written rule.
+use Prim.Native.Nat.{ℕ, _%_}
 use mathlib.Core.Bool.{Bool, cond, not, _&&_, _||_}
-use lib.ListN.{getD}
 use lib.Dec.{leb, eqb}
 
--- 400 divides it, or 4 does and 100 does not
-abbrev pub leapYear : ℕ → Bool
-leapYear y = eqb (y % 400) 0 || (eqb (y % 4) 0 && not (eqb (y % 100) 0))
+-- a number divides a year where nothing remains
+abbrev pub divides : ℕ → ℕ → Bool
+divides n y = eqb (y % n) 0
 
--- January to December, in a year that is not leap
-abbrev pub monthLengths : List ℕ
-monthLengths = 31 ∷ 28 ∷ 31 ∷ 30 ∷ 31 ∷ 30 ∷ 31 ∷ 31 ∷ 30 ∷ 31 ∷ 30 ∷ 31 ∷ []
+-- a leap year is one that 4 divides, but not 100, unless 400
+abbrev pub leapYear : ℕ → Bool
+leapYear y = divides 4 y && (not (divides 100 y) || divides 400 y)
+
+-- the months that the rule names
+abbrev pub february : ℕ
+february = 2
+
+abbrev pub april : ℕ
+april = 4
+
+abbrev pub june : ℕ
+june = 6
+
+abbrev pub september : ℕ
+september = 9
+
+abbrev pub november : ℕ
+november = 11
+
+-- April, June, September and November have 30 days
+abbrev pub hasThirty : ℕ → Bool
+hasThirty m = eqb m april || eqb m june || eqb m september || eqb m november
+
+-- February has 28, or 29 in a leap year
+abbrev pub februaryOf : ℕ → ℕ
+februaryOf y = cond (leapYear y) 29 28
+
+-- the others have 31
+abbrev pub lengthOf : ℕ → ℕ → ℕ
+lengthOf y m = cond (hasThirty m) 30 (cond (eqb m february) (februaryOf y) 31)
+
+-- months are numbered from 1 to 12
+abbrev pub isMonth : ℕ → Bool
+isMonth m = leb 1 m && leb m 12
 
 -- how many days month m of year y has; none where m is no month
 unfoldable pub daysIn : ℕ → ℕ → ℕ
-daysIn y m = cond (leb 1 m && leb m 12) (cond (eqb m 2 && leapYear y) 29 (getD monthLengths (m - 1) 0)) 0
+daysIn y m = cond (isMonth m) (lengthOf y m) 0

@@ -1,9 +1,7 @@
--- `calendar::month::days_in` meets its contract: the tests on the way pick the case of `daysIn`, and the code's list is the definition's.
-use mathlib.Core.Path.{_∙_, sym}
-use mathlib.Core.Logic.{⊎-elim}
-use borrow.Author.Needs.{needs}
-use borrow.Author.Tests.{le-leb, lt-leb, eq-eqb, ne-eqb}
-use Rattle.calendar.specs.Month.{daysIn}
+-- `calendar::month::days_in` meets its contract: each way through the code is a line of the rule, and picks the case of `daysIn`.
+use mathlib.Core.Logic.{inl, inr, ⊎-elim}
+use borrow.Author.Tests.{le-leb, lt-leb, ne-eqb}
+use Rattle.calendar.specs.Month.{february, april, june, september, november, daysIn}
 use Rattle.calendar.proofs.month.days_in.Statement.{statement}
 use Rattle.calendar.proofs.month.days_in.Tie as tie
 
@@ -15,32 +13,29 @@ returns-2 : tie.Need-returns-2
 unfolding daysIn
 returns-2 c = rw (le-leb _ _ (c .before .if1 .left), lt-leb _ _ (c .if2 .taken))
 
-leap-requires : tie.Need-leap-requires
-leap-requires c κs = search needs
-
 returns-3 : tie.Need-returns-3
 unfolding daysIn
-returns-3 c =
-    rw (
-      le-leb _ _ (c .before .before .before .before .if1 .left),
-      le-leb _ _ (c .before .before .before .if2 .left),
-      eq-eqb _ _ (c .before .before .if3 .taken),
-      sym (c .before .leap .ensures) ∙ c .if4 .taken,
-    )
-
-mul-result : tie.Need-mul-result
-mul-result c = search needs
-
-array-read-result : tie.Need-array-read-result
-array-read-result c = search needs
+returns-3 c = ⊎-elim (λ e. rw e) (⊎-elim (λ e. rw e) (⊎-elim (λ e. rw e) (λ e. rw e))) (c .match .keys1)
 
 returns-4 : tie.Need-returns-4
 unfolding daysIn
-returns-4 c =
-    rw (le-leb _ _ (c .before .before .if1 .left), le-leb _ _ (c .before .if2 .left))
-    (⊎-elim (λ w. rw (eq-eqb _ _ (w .0 .taken), sym (w .1 .ensures) ∙ w .2 .left)) (λ w. rw (ne-eqb _ _ (w .left))) (c .if3 .came))
+returns-4 c = rw (c .before .match .keys2) (c .february-of .ensures)
+
+returns-5 : tie.Need-returns-5
+unfolding daysIn
+returns-5 c =
+    let thirty = c .match .rest .0 .1 in
+    rw (
+      le-leb _ _ (c .before .before .if1 .left),
+      le-leb _ _ (c .before .if2 .left),
+      ne-eqb _ april (λ e. thirty (inl e)),
+      ne-eqb _ june (λ e. thirty (inr (inl e))),
+      ne-eqb _ september (λ e. thirty (inr (inr (inl e)))),
+      ne-eqb _ november (λ e. thirty (inr (inr (inr e)))),
+      ne-eqb _ february (c .match .rest .1),
+    )
 
 pub days-in-spec : {M : Type 1} → statement M
 days-in-spec =
     tie.close
-    (tie.spec returns returns-2 leap-requires returns-3 mul-result array-read-result returns-4)
+    (tie.spec returns returns-2 (λ c κs. tt) returns-3 returns-4 returns-5)

@@ -1,24 +1,31 @@
 -- `calendar::month::leap` meets its contract: each test of the code settles a test of `leapYear`.
-use Prim.Native.Nat.{_%_}
-use native.Mathlib.Omega.{arith}
-use borrow.Author.Tests.{eq-eqb, ne-eqb}
+use mathlib.Core.Path.{_∙_, sym}
+use borrow.Author.Needs.{needs}
+use borrow.Author.Tests.{not-true, not-false}
 use Rattle.calendar.proofs.month.leap.Statement.{statement}
 use Rattle.calendar.proofs.month.leap.Tie as tie
 
 returns : tie.Need-returns
 returns c =
-    let y = c .before .args .year in
-    rw (eq-eqb (y % 400) 0 (omega arith))
+    let not-by-100 = not-true _ (c .if2 .taken) in
+    rw (
+      sym (c .before .before .before .divides .ensures) ∙ c .before .before .if1 .taken,
+      sym (c .before .divides2 .ensures) ∙ not-by-100,
+      not-by-100,
+    )
 
 returns-2 : tie.Need-returns-2
 returns-2 c =
-    let y = c .before .before .args .year in
-    rw (ne-eqb (y % 400) 0 (λ e. omega arith), eq-eqb (y % 4) 0 (omega arith))
+    rw (
+      sym (c .before .before .before .before .divides .ensures) ∙ c .before .before .before .if1 .taken,
+      sym (c .before .before .divides2 .ensures) ∙ not-false _ (c .before .if2 .left),
+    )
+    (c .divides3 .ensures)
 
 returns-3 : tie.Need-returns-3
-returns-3 c =
-    let y = c .before .before .args .year in
-    rw (ne-eqb (y % 400) 0 (λ e. omega arith), ne-eqb (y % 4) 0 (λ e. omega arith))
+returns-3 c = rw (sym (c .before .divides .ensures) ∙ c .if1 .left, c .if1 .left)
 
 pub leap-spec : {M : Type 1} → statement M
-leap-spec = tie.close (tie.spec returns returns-2 returns-3)
+leap-spec =
+    tie.close
+    (tie.spec (λ c κs. search needs) (λ c κs. search needs) (λ c κs. search needs) returns returns-2 returns-3)
