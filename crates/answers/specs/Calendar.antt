@@ -1,4 +1,5 @@
 -- What the contracts of `calendar` are held to. Behind a function's name: the wrong programs that are ruled out.
+use Prim.Native.Nat.{ℕ, _+_, _-_}
 use mathlib.Core.Bool.{true, false}
 use Rattle.text.specs.Literal.{ascii}
 use Rattle.refusal.specs.declared.Cause.the-variants.{ByteNotAllowed, ValueNotAllowed}
@@ -15,15 +16,32 @@ use Rattle.calendar.proofs.time.time_of.Reads as TimeOf
 use Rattle.calendar.proofs.when.When.fault.Reads as Fault
 use Rattle.answers.specs.Held.{OneAnswer, Tells, lent, one}
 
+-- a month has so many days: a day more, and a day less, are ruled out
+abbrev pub HasDays : ℕ → ℕ → ℕ → Type 0
+HasDays year month days = Tells (DaysIn.Post tt) (year, (month, tt)) days (days + 1) × Tells (DaysIn.Post tt) (year, (month, tt)) days (days - 1)
+
 pub record Calendar (κ : Lft) : Type 0 where
   -- `leap`: the rule of 100 forgotten, the rule of 400 forgotten
   pub leap : OneAnswer Leap.Post
+  pub leap-1900 : Tells (Leap.Post tt) (1900, tt) false true
   pub leap-2100 : Tells (Leap.Post tt) (2100, tt) false true
   pub leap-2000 : Tells (Leap.Post tt) (2000, tt) true false
-  -- `days_in`: no leap day; 31 November; a thirteenth month
+  -- `days_in`: each month a day longer, a day shorter, February also in a leap year; a month before the first; a thirteenth
   pub days-in : OneAnswer DaysIn.Post
-  pub days-in-february : Tells (DaysIn.Post tt) (2024, (2, tt)) 29 28
-  pub days-in-november : Tells (DaysIn.Post tt) (2023, (11, tt)) 30 31
+  pub days-in-january : HasDays 2023 1 31
+  pub days-in-february : HasDays 2023 2 28
+  pub days-in-leap-february : HasDays 2024 2 29
+  pub days-in-march : HasDays 2023 3 31
+  pub days-in-april : HasDays 2023 4 30
+  pub days-in-may : HasDays 2023 5 31
+  pub days-in-june : HasDays 2023 6 30
+  pub days-in-july : HasDays 2023 7 31
+  pub days-in-august : HasDays 2023 8 31
+  pub days-in-september : HasDays 2023 9 30
+  pub days-in-october : HasDays 2023 10 31
+  pub days-in-november : HasDays 2023 11 30
+  pub days-in-december : HasDays 2023 12 31
+  pub days-in-zeroth : Tells (DaysIn.Post tt) (2023, (0, tt)) 0 31
   pub days-in-thirteenth : Tells (DaysIn.Post tt) (2023, (13, tt)) 0 31
   -- `is_day`: a day of 1999; 29 February of every year; the last year left out
   pub is-day : OneAnswer IsDay.Post
