@@ -1,4 +1,4 @@
--- Leap years and the lengths of months, by the written rule.
+-- Leap years and the lengths of months, by the Gregorian rule as it is written.
 use Prim.Native.Nat.{ℕ, _%_}
 use mathlib.Core.Bool.{Bool, cond, not, _&&_, _||_}
 use lib.Dec.{leb, eqb}

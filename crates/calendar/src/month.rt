@@ -1,4 +1,4 @@
-// Leap years and the lengths of months, by the written rule.
+// Leap years and the lengths of months, by the Gregorian rule as it is written.
 ghost use mathlib.Core.Path.{_≡_};
 ghost use Prim.Native.Nat.{_≤_};
 ghost use Rattle.calendar.specs.Month.{divides, leapYear, februaryOf, daysIn};
