@@ -59,7 +59,7 @@ cardOrBlanksRules column p = ruleAt ByteNotAllowed column (sameBytes p noCard ||
 -- "A field with a closed set (version, processing, currency, launch type, product, capture) gives 8 only"
 unfoldable pub contentRules : Content → ℕ → ℕ → List ℕ → List Rule
 contentRules Digits edition column p = ruleAt ByteNotAllowed column (holdsOnly digits p) ∷ []
-contentRules Text edition column p = ruleAt ByteNotAllowed column (holdsOnly cardText p) ∷ []  -- "AN is bytes 32 to 126"
+contentRules Text edition column p = ruleAt ByteNotAllowed column (holdsOnly cardText p) ∷ []  -- AN: "bytes 160 to 255 besides 32 to 126"
 contentRules Day edition column p = whenRules column (yearFirst p)
 contentRules DayOrZeros edition column p = dayOrZerosRules column p
 contentRules Time edition column p = whenRules column (timeOf p)

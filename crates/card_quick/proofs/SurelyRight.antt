@@ -18,7 +18,7 @@ use Rattle.text.specs.Number.{valueOf}
 use Rattle.text.specs.Weighed.{valueIfDigits}
 use Rattle.text.specs.Literal.{sameBytes}
 use Rattle.text.specs.Part.{positions}
-use Rattle.text.proofs.Alphabets.{both, both-left, both-right}
+use Rattle.text.proofs.Alphabets.{both-left, both-right, digit-allowed, text-allowed}
 use Rattle.text.proofs.Weights.{if-digits}
 use Rattle.calendar.specs.When.{written, onlyIf, whenRules}
 use Rattle.calendar.specs.Day.{isDay}
@@ -63,14 +63,6 @@ wide-least = refl
 wide-greatest : length greatest ≡ 199
 unfolding greatest
 wide-greatest = refl
-
-digit-allowed : (b : ℕ) → 48 ≤ b → b ≤ 57 → allowed digits b ≡ true
-unfolding allowed
-digit-allowed b l h = both (le-leb 48 b l) (le-leb b 57 h)
-
-text-allowed : (b : ℕ) → 32 ≤ b → b ≤ 126 → allowed cardText b ≡ true
-unfolding allowed
-text-allowed b l h = both (le-leb 32 b l) (le-leb b 126 h)
 
 module _ (r : List ℕ) (wide : length r ≡ 199) (fits : inPicture r ≡ true) where
   above-least : noneAbove least r ≡ true

@@ -1,4 +1,4 @@
--- Laws of `holdsOnly`: it says that each byte is allowed, and goes by the parts of a part.
+-- Laws of `holdsOnly`: it says that each byte is allowed, and goes by the parts of a part; and of single bytes, between which two they are allowed.
 use Prim.Native.Nat.{ℕ, zero, suc, _≤_, _<_}
 use mathlib.Core.Path.{_≡_, refl, _∙_, ap}
 use mathlib.Core.List.{List, [], _∷_, _++_}
@@ -6,9 +6,9 @@ use mathlib.Core.Bool.{Bool, true, false, _&&_, false≢true}
 use native.Mathlib.Omega.{arith}
 use lib.ListN.{length, getD}
 use lib.Dec.{leb}
-use borrow.Author.Tests.{leb-true}
+use borrow.Author.Tests.{le-leb, leb-true}
 use Rattle.text.specs.declared.alphabet.Alphabet.{Alphabet}
-use Rattle.text.specs.declared.alphabet.Alphabet.the-variants.{Digits}
+use Rattle.text.specs.declared.alphabet.Alphabet.the-variants.{Digits, CardText}
 use Rattle.text.specs.Alphabet.{allowed, holdsOnly}
 
 -- both halves of a test that holds
@@ -54,3 +54,12 @@ digit-low b e = leb-true 48 b (both-left (leb 48 b) (leb b 57) e)
 pub digit-high : (b : ℕ) → allowed Digits b ≡ true → b ≤ 57
 unfolding allowed
 digit-high b e = leb-true b 57 (both-right (leb 48 b) (leb b 57) e)
+
+-- bytes that are digits, and bytes that are text without an accent
+pub digit-allowed : (b : ℕ) → 48 ≤ b → b ≤ 57 → allowed Digits b ≡ true
+unfolding allowed
+digit-allowed b l h = rw (le-leb 48 b l, le-leb b 57 h)
+
+pub text-allowed : (b : ℕ) → 32 ≤ b → b ≤ 126 → allowed CardText b ≡ true
+unfolding allowed
+text-allowed b l h = rw (le-leb 32 b l, le-leb b 126 h)

@@ -16,9 +16,9 @@ within low high b = leb low b && leb b high
 abbrev pub digit : ℕ → Bool
 digit = within 48 57
 
--- "AN is bytes 32 to 126" (of a card file)
+-- "In card files an AN field may .. hold bytes 160 to 255 besides 32 to 126"
 abbrev pub cardText : ℕ → Bool
-cardText = within 32 126
+cardText b = within 32 126 b || within 160 255 b
 
 -- what a payroll file may hold: not "any byte outside 32 to 126"
 abbrev pub plainAscii : ℕ → Bool

@@ -1,7 +1,7 @@
 // Which bytes a part may hold.
 ghost use mathlib.Core.Path.{_≡_};
 ghost use lib.ListN.{drop};
-ghost use Rattle.text.specs.Alphabet.{within, allowed, firstStray, holdsOnly};
+ghost use Rattle.text.specs.Alphabet.{within, cardText, allowed, firstStray, holdsOnly};
 
 // The kinds of part, by the bytes that they may hold.
 pub enum Alphabet {
@@ -28,13 +28,20 @@ fn is_within(low: u8, high: u8, byte: u8) -> bool
     low <= byte && byte <= high
 }
 
+// Whether AN of a card file may hold a byte: 32 to 126, and 160 to 255 for letters with accents.
+fn is_card_text(byte: u8) -> bool
+    ensures { λ r. ⌜ r ≡ cardText byte ⌝ }
+{
+    is_within(b' ', b'~', byte) || is_within(160, 255, byte)
+}
+
 // Whether a part of this alphabet may hold this byte.
 pub fn allows(alphabet: Alphabet, byte: u8) -> bool
     ensures { λ r. ⌜ r ≡ allowed alphabet byte ⌝ }
 {
     match alphabet {
         Alphabet::Digits => is_within(b'0', b'9', byte),
-        Alphabet::CardText => is_within(b' ', b'~', byte),
+        Alphabet::CardText => is_card_text(byte),
         Alphabet::PlainAscii => is_within(b' ', b'~', byte),
         Alphabet::DigitsAndStars => byte == b'*' || is_within(b'0', b'9', byte),
     }

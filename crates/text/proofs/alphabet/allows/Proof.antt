@@ -15,20 +15,20 @@ is-within-requires c κs = search needs
 enum-told-2 : tie.Need-enum-told-2
 enum-told-2 c = search needs
 
-is-within-requires-2 : tie.Need-is-within-requires-2
-is-within-requires-2 c κs = search needs
+is-card-text-requires : tie.Need-is-card-text-requires
+is-card-text-requires c κs = search needs
 
 enum-told-3 : tie.Need-enum-told-3
 enum-told-3 c = search needs
 
-is-within-requires-3 : tie.Need-is-within-requires-3
-is-within-requires-3 c κs = search needs
+is-within-requires-2 : tie.Need-is-within-requires-2
+is-within-requires-2 c κs = search needs
 
 enum-told-4 : tie.Need-enum-told-4
 enum-told-4 c = search needs
 
-is-within-requires-4 : tie.Need-is-within-requires-4
-is-within-requires-4 c κs = search needs
+is-within-requires-3 : tie.Need-is-within-requires-3
+is-within-requires-3 c κs = search needs
 
 returns : tie.Need-returns
 unfolding allowed
@@ -48,7 +48,7 @@ returns-4 c = rw (c .before .enum-told4 .given .1, eq-eqb _ _ (c .if1 .taken))
 
 returns-5 : tie.Need-returns-5
 unfolding allowed
-returns-5 c = c .is-within4 .ensures ∙ rw (c .before .before .enum-told4 .given .1, ne-eqb _ _ (c .before .if1 .left))
+returns-5 c = c .is-within3 .ensures ∙ rw (c .before .before .enum-told4 .given .1, ne-eqb _ _ (c .before .if1 .left))
 
 pub allows-spec : {M : Type 1} → statement M
 allows-spec =
@@ -57,11 +57,11 @@ allows-spec =
     enum-told
     is-within-requires
     enum-told-2
-    is-within-requires-2
+    is-card-text-requires
     enum-told-3
-    is-within-requires-3
+    is-within-requires-2
     enum-told-4
-    is-within-requires-4
+    is-within-requires-3
     returns
     returns-2
     returns-3
