@@ -45,6 +45,8 @@ card-record κ =
       read-launch-type = (refl, told readingRead refl);
       read-day = (refl, told readingRead refl);
       read-check-digit = (refl, told readingRead refl);
+      read-accent = (refl, told readingRead refl);
+      read-accent-card = (refl, told readingRead refl);
       read-blank-card = (refl, told readingRead refl);
       read-zeros = (refl, told readingRead refl);
       read-adjustment-check-digit = (refl, told readingRead refl);
@@ -53,4 +55,6 @@ card-record κ =
       quick-read-launch-type = (refl, told readingRead refl);
       quick-read-day = (refl, told readingRead refl);
       quick-read-check-digit = (refl, told readingRead refl);
+      quick-read-159 = (refl, told readingRead refl);
+      quick-read-accent = (refl, told readingRead refl);
     }

@@ -56,12 +56,15 @@ definitions =
       kept-first-instalment = kept-means-kept 2 _ .0 (record { numbers = _; answer = refl });
       kept-disagreeing = λ kept. told (λ a. bit (isAccepted a)) refl (kept-means-kept 2 _ .1 kept .answer);
       kept-by-net = λ kept. told (λ a. bit (isAccepted a)) refl (kept-means-kept 2 _ .1 kept .answer);
+      kept-accents = kept-means-kept 2 _ .0 (record { numbers = _; answer = refl });
+      kept-159 = λ kept. told (λ a. bit (isAccepted a)) refl (kept-means-kept 2 _ .1 kept .answer);
       kept-adjusted = kept-means-kept 2 _ .0 (record { numbers = _; answer = refl });
       kept-blank-card = kept-means-kept 2 _ .0 (record { numbers = _; answer = refl });
       kept-absolute = λ kept. told (λ a. bit (isAccepted a)) refl (kept-means-kept 2 _ .1 kept .answer);
       kept-zero = λ kept. told (λ a. bit (isAccepted a)) refl (kept-means-kept 2 _ .1 kept .answer);
       kept-payroll = payroll-law.kept-means-kept _ .0 (record { numbers = _; answer = refl });
       kept-z = λ kept. told payrollAnswerRead refl (payroll-law.kept-means-kept _ .1 kept .answer);
+      kept-payroll-accent = λ kept. told payrollAnswerRead refl (payroll-law.kept-means-kept _ .1 kept .answer);
       kept-not-itself = λ kept. told payrollAnswerRead refl (payroll-law.kept-means-kept _ .1 kept .answer);
       hidden-from = (refl, refl);
       hidden-to = (refl, refl);

@@ -66,6 +66,7 @@ payroll-file κ =
       check-refused = (refl, told payrollAnswerRead refl);
       check-one-answer = (refl, told payrollAnswerRead refl);
       check-first-record = (refl, told payrollAnswerRead refl);
+      check-accent = (refl, told payrollAnswerRead refl);
       check-not-added = (refl, told payrollAmountRead refl);
       stream-open = λ κs a r r' s s' p q. equal p q;
       stream-open-answered = (refl, told (λ s. progressRead (s .progress)) refl);

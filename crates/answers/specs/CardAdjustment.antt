@@ -37,6 +37,9 @@ pub record CardAdjustment (κ : Lft) : Type 0 where
   pub fault-date : Tells (Fault.Post (one κ)) (2, (lent (at 52 "00000000" credit), tt)) (At ValueNotAllowed 52) Nothing
   pub fault-blank-card : Tells (Fault.Post (one κ)) (2, (lent (at 163 blankCard credit), tt)) Nothing (At ByteNotAllowed 163)
   pub fault-mixed-card : Tells (Fault.Post (one κ)) (2, (lent (at 163 "   " credit), tt)) (At ByteNotAllowed 163) Nothing
+  -- an accent refused in the description, and taken in the card
+  pub fault-accent : Tells (Fault.Post (one κ)) (2, (lent (at 80 "BÔNUS DO MÊS" credit), tt)) Nothing (At ByteNotAllowed 80)
+  pub fault-accent-card : Tells (Fault.Post (one κ)) (2, (lent (at 174 "É" credit), tt)) (At ByteNotAllowed 163) Nothing
   -- `Aj::read`: gross read for net; a debit read as a credit
   pub read : OneAnswer Read.Post
   pub read-gross : Tells (Read.Post (one κ)) (lent credit, tt) oneCredit (adjustmentOf 1 (amounts 1000 25 1000))

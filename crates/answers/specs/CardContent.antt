@@ -3,7 +3,7 @@ use mathlib.Core.Bool.{true, false}
 use Rattle.text.specs.Literal.{ascii}
 use Rattle.refusal.specs.declared.Cause.the-variants.{ByteNotAllowed, ValueNotAllowed, AmountsDisagree}
 use Rattle.refusal.specs.declared.Fault.the-variants.{Nothing, At}
-use Rattle.card_content.specs.declared.content.Content.the-variants.{Digits, Day, DayOrZeros, Card, CardOrBlanks, OneOf}
+use Rattle.card_content.specs.declared.content.Content.the-variants.{Digits, Text, Day, DayOrZeros, Card, CardOrBlanks, OneOf}
 use Rattle.card_content.specs.declared.content.ClosedSet.the-variants.{Version, Currency, Product, Capture, AdjustmentCapture, AdjustmentType}
 use Rattle.card_content.specs.Field.{field}
 use Rattle.demands.specs.ExampleFile.{l9}
@@ -34,6 +34,13 @@ pub record CardContent (κ : Lft) : Type 0 where
   pub fault-of-set : Tells (FaultOf.Post (one κ)) (OneOf Product, (2, (53, (lent (ascii "X"), tt)))) (At ValueNotAllowed 53) (At ByteNotAllowed 53)
   pub fault-of-card : Tells (FaultOf.Post (one κ)) (Card, (2, (88, (lent (ascii "000123456****123456"), tt)))) Nothing (At ByteNotAllowed 88)
   pub fault-of-day : Tells (FaultOf.Post (one κ)) (Day, (2, (30, (lent (ascii "20230229"), tt)))) (At ValueNotAllowed 30) Nothing
+  -- AN: 127 and 159 taken, 160 refused; an accent taken in a card, a product and a currency
+  pub fault-of-127 : Tells (FaultOf.Post (one κ)) (Text, (2, (188, (lent (ascii "PA\u{7f}"), tt)))) (At ByteNotAllowed 188) Nothing
+  pub fault-of-159 : Tells (FaultOf.Post (one κ)) (Text, (2, (188, (lent (ascii "PA\u{9f}"), tt)))) (At ByteNotAllowed 188) Nothing
+  pub fault-of-160 : Tells (FaultOf.Post (one κ)) (Text, (2, (188, (lent (ascii "PA\u{a0}"), tt)))) Nothing (At ByteNotAllowed 188)
+  pub fault-of-accent-card : Tells (FaultOf.Post (one κ)) (Card, (2, (88, (lent (ascii "000123456é890123456"), tt)))) (At ByteNotAllowed 88) Nothing
+  pub fault-of-accent-product : Tells (FaultOf.Post (one κ)) (OneOf Product, (2, (53, (lent (ascii "Ç"), tt)))) (At ValueNotAllowed 53) Nothing
+  pub fault-of-accent-currency : Tells (FaultOf.Post (one κ)) (OneOf Currency, (2, (11, (lent (ascii "RÉ"), tt)))) (At ValueNotAllowed 11) Nothing
   -- where zeros are a day: zeros refused, a day that is none taken; where they are none: zeros taken
   pub fault-of-zeros : Tells (FaultOf.Post (one κ)) (DayOrZeros, (2, (30, (lent (ascii "00000000"), tt)))) Nothing (At ValueNotAllowed 30)
   pub fault-of-no-day : Tells (FaultOf.Post (one κ)) (DayOrZeros, (2, (30, (lent (ascii "20230229"), tt)))) (At ValueNotAllowed 30) Nothing

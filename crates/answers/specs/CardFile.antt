@@ -9,6 +9,7 @@ use Rattle.refusal.specs.declared.Cause.the-variants.{
   NoLineEnd,
   KindUnknown,
   KindNotAllowedHere,
+  ByteNotAllowed,
   ValueNotAllowed,
   SequenceWrong,
   AmountsDisagree,
@@ -41,7 +42,7 @@ use Rattle.answers.specs.CardRun.{
   opened,
 }
 use Rattle.lines.specs.Lines.{joined}
-use Rattle.demands.specs.ExampleFile.{a0, l9, a9, fileOf}
+use Rattle.demands.specs.ExampleFile.{a0, l0, l9, a9, fileOf}
 use Rattle.answers.specs.Samples.{at, sale, credit, cardFile, adjustedFile}
 use base.Fml.{Lft}
 use Rattle.card_step.proofs.took.Reads as Took
@@ -110,6 +111,9 @@ pub record CardFile (κ : Lft) : Type 0 where
   pub check-258 : Tells (Check.Post (one κ)) (258, (lent cardFile, tt)) (refused (refusal EditionUnknown 0 0)) (accepted 5 1 oneSale)
   pub check-version : Tells (Check.Post (one κ)) (1, (lent (fileOf (at 54 "7" sale)), tt)) (refused (refusal ValueNotAllowed 3 54)) (accepted 5 1 oneSale)
   pub check-behind-a9 : Tells (Check.Post (one κ)) (2, (lent (cardFile ++ ascii "\n"), tt)) (refused (refusal BytesAfterTheEnd 6 0)) (accepted 5 1 oneSale)
+  -- a header refused for its accents; one that holds 159 taken
+  pub check-accents : Tells (Check.Post (one κ)) (2, (lent (joined (at 29 "ESTAÇÃO" a0 ∷ l0 ∷ sale ∷ l9 ∷ a9 ∷ [])), tt)) (accepted 5 1 oneSale) (refused (refusal ByteNotAllowed 1 29))
+  pub check-159 : Tells (Check.Post (one κ)) (2, (lent (joined (at 29 "ESTA\u{9f}" a0 ∷ l0 ∷ sale ∷ l9 ∷ a9 ∷ [])), tt)) (refused (refusal ByteNotAllowed 1 29)) (accepted 5 1 oneSale)
   -- a file with an adjustment: refused as unknown; the credit forgotten; an adjustment before L0 taken
   pub check-adjusted : Tells (Check.Post (one κ)) (2, (lent adjustedFile, tt)) (Accepted (numbersWith 6 1 oneSale (adjusted 1 975) (adjusted 0 0))) (refused (refusal KindUnknown 4 1))
   pub check-credit : Tells (Check.Post (one κ)) (2, (lent adjustedFile, tt)) (Accepted (numbersWith 6 1 oneSale (adjusted 1 975) (adjusted 0 0))) (accepted 6 1 oneSale)

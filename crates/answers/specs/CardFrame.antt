@@ -34,10 +34,12 @@ abbrev trailer : ℕ → ℕ → A9
 trailer count nseq = record { count = count; nseq = nseq }
 
 pub record CardFrame (κ : Lft) : Type 0 where
-  -- `A0::fault`: another version taken; 8 for a letter in NSEQ
+  -- `A0::fault`: another version taken; 8 for a letter in NSEQ; an accent refused in the name, and taken in the movement
   pub a0-fault : OneAnswer A0Fault.Post
   pub a0-version : Tells (A0Fault.Post (one κ)) (2, (lent (at 3 "001.8d" a0), tt)) (At ValueNotAllowed 3) Nothing
   pub a0-nseq : Tells (A0Fault.Post (one κ)) (2, (lent (at 70 "A" a0), tt)) (At ByteNotAllowed 70) (At ValueNotAllowed 70)
+  pub a0-accent : Tells (A0Fault.Post (one κ)) (2, (lent (at 29 "ESTAÇÃO" a0), tt)) Nothing (At ByteNotAllowed 29)
+  pub a0-accent-movement : Tells (A0Fault.Post (one κ)) (2, (lent (at 23 "Ç" a0), tt)) (At ByteNotAllowed 23) Nothing
   -- `A0::read`: the time read for the movement; a new file taken for a reprocessed one
   pub a0-read : OneAnswer A0Read.Post
   pub a0-movement : Tells (A0Read.Post (one κ)) (lent a0, tt) (header 20240229 1 false) (header 20240229 120000 false)

@@ -44,13 +44,18 @@ pub record CardRecord (κ : Lft) : Type 0 where
   pub read-launch-type : Tells (Read.Post (one κ)) (2, (lent (at 44 "3" sale), tt)) (Faulty Cv ValueNotAllowed 44) (saleRead cashSale)
   pub read-day : Tells (Read.Post (one κ)) (2, (lent (at 30 "20230229" sale), tt)) (Faulty Cv ValueNotAllowed 30) (saleRead cashSale)
   pub read-check-digit : Tells (Read.Post (one κ)) (2, (lent (at 99 "7" sale), tt)) (saleRead cashSale) (Faulty Cv ValueNotAllowed 88)
+  -- an accent refused in the store, and taken in the card
+  pub read-accent : Tells (Read.Post (one κ)) (2, (lent (at 3 "É" sale), tt)) (saleRead cashSale) (Faulty Cv ByteNotAllowed 3)
+  pub read-accent-card : Tells (Read.Post (one κ)) (2, (lent (at 99 "É" sale), tt)) (Faulty Cv ByteNotAllowed 88) (saleRead cashSale)
   -- of an adjustment: a blank card refused; zeros taken for its date; a hidden digit of the card looked at
   pub read-blank-card : Tells (Read.Post (one κ)) (2, (lent (at 163 blankCard credit), tt)) (adjustmentRead oneCredit) (Faulty Aj ByteNotAllowed 163)
   pub read-zeros : Tells (Read.Post (one κ)) (2, (lent (at 52 "00000000" credit), tt)) (Faulty Aj ValueNotAllowed 52) (adjustmentRead oneCredit)
   pub read-adjustment-check-digit : Tells (Read.Post (one κ)) (2, (lent (at 174 "7" credit), tt)) (adjustmentRead oneCredit) (Faulty Aj ValueNotAllowed 163)
-  -- `card_quick::read`: a picture of a sale that is too wide takes what the slow way refuses
+  -- `card_quick::read`: a picture of a sale that is too wide takes what the slow way refuses; one that is too narrow has the last word
   pub quick-read : OneAnswer QuickRead.Post
   pub quick-read-capture : Tells (QuickRead.Post (one κ)) (1, (lent (at 54 "7" sale), tt)) (Faulty Cv ValueNotAllowed 54) (saleRead cashSale)
   pub quick-read-launch-type : Tells (QuickRead.Post (one κ)) (2, (lent (at 44 "3" sale), tt)) (Faulty Cv ValueNotAllowed 44) (saleRead cashSale)
   pub quick-read-day : Tells (QuickRead.Post (one κ)) (2, (lent (at 30 "20230229" sale), tt)) (Faulty Cv ValueNotAllowed 30) (saleRead cashSale)
   pub quick-read-check-digit : Tells (QuickRead.Post (one κ)) (2, (lent (at 99 "7" sale), tt)) (saleRead cashSale) (Faulty Cv ValueNotAllowed 88)
+  pub quick-read-159 : Tells (QuickRead.Post (one κ)) (2, (lent (at 3 "\u{9f}" sale), tt)) (Faulty Cv ByteNotAllowed 3) (saleRead cashSale)
+  pub quick-read-accent : Tells (QuickRead.Post (one κ)) (2, (lent (at 3 "É" sale), tt)) (saleRead cashSale) (Faulty Cv ByteNotAllowed 3)

@@ -25,12 +25,11 @@ use Rattle.answers.specs.Samples.{
   cardFile,
   adjustedFile,
   fileHeader,
-  batchHeader,
   payment,
   batchTrailer,
-  fileTrailer,
   payrollFile,
   payrollFileOf,
+  payrollFileWith,
 }
 
 pub record Definitions : Type 0 where
@@ -39,15 +38,19 @@ pub record Definitions : Type 0 where
   pub kept-first-instalment : Kept 2 (fileOf (at 107 "0102" (at 123 "000000100000000000025000000009750" sale)))
   pub kept-disagreeing : Kept 2 (fileOf (at 77 "00000009751" sale)) → ⊥
   pub kept-by-net : Kept 2 (joined (a0 ∷ l0 ∷ sale ∷ at 9 "00000000009750" l9 ∷ a9 ∷ [])) → ⊥
+  -- accents refused in the header and in a sale; a name that holds 159 kept
+  pub kept-accents : Kept 2 (joined (at 29 "ESTAÇÃO" a0 ∷ l0 ∷ at 3 "LUÍS GAMA" sale ∷ l9 ∷ a9 ∷ []))
+  pub kept-159 : Kept 2 (joined (at 29 "ESTA\u{9f}" a0 ∷ l0 ∷ sale ∷ l9 ∷ a9 ∷ [])) → ⊥
   -- with an adjustment: a blank card refused; the absolute value of a sum below zero kept, and one cut off at zero
   pub kept-adjusted : Kept 2 adjustedFile
   pub kept-blank-card : Kept 2 (creditFileOf blankCard)
   pub kept-absolute : Kept 2 (joined (a0 ∷ l0 ∷ debit ∷ at 9 "00000000000975" l9 ∷ a9 ∷ [])) → ⊥
   pub kept-zero : Kept 2 (joined (a0 ∷ l0 ∷ debit ∷ at 9 "00000000000000" l9 ∷ a9 ∷ [])) → ⊥
-  -- `Kept` of a payroll file: a Z in a file that is no return, a batch trailer that does not count itself
+  -- `Kept` of a payroll file: a Z in a file that is no return, an accent in a header, a batch trailer that does not count itself
   pub kept-payroll : payroll.Kept payrollFile
   pub kept-z : payroll.Kept (payrollFileOf (at 14 "Z" payment)) → ⊥
-  pub kept-not-itself : payroll.Kept (joined (fileHeader ∷ batchHeader ∷ payment ∷ at 18 "000002" batchTrailer ∷ fileTrailer ∷ [])) → ⊥
+  pub kept-payroll-accent : payroll.Kept (payrollFileWith (at 80 "\u{a0}" fileHeader) payment batchTrailer) → ⊥
+  pub kept-not-itself : payroll.Kept (payrollFileWith fileHeader payment (at 18 "000002" batchTrailer)) → ⊥
   -- `hiddenIn`: places one late, or counted without the LF; `TwinFiles`: an open digit hidden
   pub hidden-from : (hiddenIn cardFile 192 ≡ false) × (hiddenIn cardFile 193 ≡ true)
   pub hidden-to : (hiddenIn cardFile 198 ≡ true) × (hiddenIn cardFile 199 ≡ false)

@@ -6,7 +6,7 @@ use lib.ListN.{take, drop}
 use Rattle.text.specs.Literal.{ascii}
 use Rattle.text.specs.declared.number.Number.the-variants.{Of}
 use Rattle.refusal.specs.declared.Fault.the-variants.{Nothing}
-use Rattle.refusal.specs.declared.Cause.the-variants.{NoLineEnd, WrongWidth, SequenceWrong, TrailerDisagrees, EndsTooEarly, BytesAfterTheEnd}
+use Rattle.refusal.specs.declared.Cause.the-variants.{NoLineEnd, WrongWidth, ByteNotAllowed, SequenceWrong, TrailerDisagrees, EndsTooEarly, BytesAfterTheEnd}
 use Rattle.chunks.specs.Unfinished.{holding}
 use Rattle.payroll_record.specs.declared.kind.Kind.the-variants.{SegmentA, SegmentB, SegmentZ, FileHeader}
 use Rattle.payroll_record.specs.declared.reading.Reading.the-variants.{Detail, BatchTrailer, FileTrailer}
@@ -20,7 +20,7 @@ use Rattle.payroll_stream.specs.declared.Progress.{Progress}
 use Rattle.payroll_stream.specs.declared.Progress.the-variants.{GoingOn, Answered}
 use Rattle.answers.specs.CardRun.{refusal}
 use Rattle.answers.specs.PayrollRecord.{detailOf, batchTrailerOf, fileTrailerOf}
-use Rattle.answers.specs.Samples.{at, payment, payrollFile, payrollFileOf}
+use Rattle.answers.specs.Samples.{at, fileHeader, payment, batchTrailer, payrollFile, payrollFileOf, payrollFileWith}
 use base.Fml.{Lft}
 use Rattle.payroll_run.proofs.running.Running.open.Reads as Open
 use Rattle.payroll_run.proofs.running.Running.next_number.Reads as NextNumber
@@ -119,11 +119,12 @@ pub record PayrollFile (κ : Lft) : Type 0 where
   pub rest-optional : Tells (AnswerWithRest.Post (one κ)) (state Ended 5 3 1 10000, (lent [], tt)) (refused (refusal EndsTooEarly 6 0)) (accepted 1 10000)
   pub rest-second : Tells (AnswerWithRest.Post (one κ)) (state Ended 5 3 1 10000, (lent (ascii "\u{1a}\u{1a}"), tt)) (refused (refusal BytesAfterTheEnd 6 0)) (accepted 1 10000)
   pub rest-unended : Tells (AnswerWithRest.Post (one κ)) (state BehindA 3 2 1 10000, (lent (ascii "x"), tt)) (refused (refusal NoLineEnd 4 0)) (refused (refusal EndsTooEarly 4 0))
-  -- `check`: every file refused; one accepted answer for all files; a look at the first record alone; a payment counted and not added
+  -- `check`: every file refused; one accepted answer for all files; a look at the first record alone; an accent taken; a payment counted and not added
   pub check : OneAnswer Check.Post
   pub check-refused : Tells (Check.Post (one κ)) (lent payrollFile, tt) (accepted 1 10000) (refused (refusal EndsTooEarly 6 0))
   pub check-one-answer : Tells (Check.Post (one κ)) (lent [], tt) (refused (refusal EndsTooEarly 1 0)) (accepted 1 10000)
   pub check-first-record : Tells (Check.Post (one κ)) (lent (payrollFileOf (at 9 "00002" payment)), tt) (refused (refusal SequenceWrong 3 9)) (accepted 1 10000)
+  pub check-accent : Tells (Check.Post (one κ)) (lent (payrollFileWith (at 80 "\u{a0}" fileHeader) payment batchTrailer), tt) (refused (refusal ByteNotAllowed 1 80)) (accepted 1 10000)
   pub check-not-added : Tells (Check.Post (one κ)) (lent payrollFile, tt) (accepted 1 10000) (accepted 1 0)
   -- `Stream::open`: accepted before anything has come; a byte that has not come
   pub stream-open : OneAnswer StreamOpen.Post

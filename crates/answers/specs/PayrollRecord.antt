@@ -94,10 +94,12 @@ pub record PayrollRecord (κ : Lft) : Type 0 where
   pub kind-two : Tells (KindOf.Post (one κ)) (lent (at 8 "2" payment), tt) UnknownKind (Known BatchHeader)
   pub kind-segment : Tells (KindOf.Post (one κ)) (lent (at 14 "C" payment), tt) UnknownSegment (Known SegmentB)
   pub kind-segment-column : Tells (KindOf.Post (one κ)) (lent (at 14 "C" payment), tt) UnknownSegment UnknownKind
-  -- `FileHeader::read`: a code of 0 taken; a file that is sent taken for a return
+  -- `FileHeader::read`: a code of 0 taken; a file that is sent taken for a return; an accent taken, or told at the column of the field it stands in
   pub header-read : OneAnswer HeaderRead'.Post
   pub header-code : Tells (HeaderRead'.Post (one κ)) (lent (at 143 "0" fileHeader), tt) (headerOf (At ValueNotAllowed 143) false) (headerOf Nothing false)
   pub header-return : Tells (HeaderRead'.Post (one κ)) (lent fileHeader, tt) (headerOf Nothing false) (headerOf Nothing true)
+  pub header-accent : Tells (HeaderRead'.Post (one κ)) (lent (at 80 "\u{a0}" fileHeader), tt) (headerOf (At ByteNotAllowed 80) false) (headerOf Nothing false)
+  pub header-accent-column : Tells (HeaderRead'.Post (one κ)) (lent (at 146 "\u{a0}" fileHeader), tt) (headerOf (At ByteNotAllowed 146) false) (headerOf (At ByteNotAllowed 144) false)
   -- `BatchHeader::read`: the kind read with the batch number; another bank let through
   pub batch-header-read : OneAnswer BatchHeaderRead'.Post
   pub batch-header-number : Tells (BatchHeaderRead'.Post (one κ)) (lent batchHeader, tt) (batchHeaderOf Nothing (Of 1)) (batchHeaderOf Nothing (Of 11))

@@ -7,7 +7,7 @@ use Rattle.text.specs.Literal.{ascii}
 use Rattle.lines.specs.Lines.{joined}
 use Rattle.demands.specs.ExampleFile.{a0, l0, saleWith, adjustment, fileOf}
 
--- a record with another text at a position, which counts from 1
+-- a record with another text at a position, which counts from 1; a letter with an accent is the byte of its code, as in Latin-1
 abbrev pub at : ℕ → String → List ℕ → List ℕ
 at position text r = take (position - 1) r ++ (ascii text ++ drop (position - 1 + length (ascii text)) r)
 
@@ -59,8 +59,11 @@ abbrev pub fileTrailer : List ℕ
 fileTrailer = at 18 "000001000005" (padded "42299999")
 
 -- a payroll file with another first payment, and the byte 1A behind it
+abbrev pub payrollFileWith : List ℕ → List ℕ → List ℕ → List ℕ
+payrollFileWith header detail trailer = joined (header ∷ batchHeader ∷ detail ∷ trailer ∷ fileTrailer ∷ []) ++ (26 ∷ [])
+
 abbrev pub payrollFileOf : List ℕ → List ℕ
-payrollFileOf other = joined (fileHeader ∷ batchHeader ∷ other ∷ batchTrailer ∷ fileTrailer ∷ []) ++ (26 ∷ [])
+payrollFileOf detail = payrollFileWith fileHeader detail batchTrailer
 
 abbrev pub payrollFile : List ℕ
 payrollFile = payrollFileOf payment

@@ -1,7 +1,7 @@
 -- What the contracts of `text` are held to. Behind a function's name: the wrong programs that are ruled out.
 use mathlib.Core.Bool.{true, false}
 use Rattle.text.specs.Literal.{ascii}
-use Rattle.text.specs.declared.alphabet.Alphabet.the-variants.{Digits, CardText, DigitsAndStars}
+use Rattle.text.specs.declared.alphabet.Alphabet.the-variants.{Digits, CardText, PlainAscii, DigitsAndStars}
 use Rattle.text.specs.declared.alphabet.Stray.the-variants.{At, Nowhere}
 use Rattle.text.specs.declared.number.Number.the-variants.{Of, NotDigits, TooLong}
 use base.Fml.{Lft}
@@ -17,12 +17,19 @@ use Rattle.text.proofs.part.part_of.Reads as PartOf
 use Rattle.answers.specs.Held.{OneAnswer, OnePart, Tells, lent, part, one, two}
 
 pub record Text (κ : Lft) : Type 0 where
-  -- `allows`: `:`, and `/`, taken for a digit; `~` refused in AN; a star refused in a card
+  -- `allows`: `:`, and `/`, taken for a digit; a star refused in a card
   pub allows : OneAnswer Allows.Post
   pub allows-colon : Tells (Allows.Post tt) (Digits, (58, tt)) false true
   pub allows-slash : Tells (Allows.Post tt) (Digits, (47, tt)) false true
-  pub allows-tilde : Tells (Allows.Post tt) (CardText, (126, tt)) true false
   pub allows-star : Tells (Allows.Post tt) (DigitsAndStars, (42, tt)) true false
+  -- in AN: a byte refused at an end of what it may hold, or taken next to one; the same where there are no accents: `~` refused, 160 taken
+  pub allows-tilde : Tells (Allows.Post tt) (CardText, (126, tt)) true false
+  pub allows-127 : Tells (Allows.Post tt) (CardText, (127, tt)) false true
+  pub allows-159 : Tells (Allows.Post tt) (CardText, (159, tt)) false true
+  pub allows-160 : Tells (Allows.Post tt) (CardText, (160, tt)) true false
+  pub allows-255 : Tells (Allows.Post tt) (CardText, (255, tt)) true false
+  pub allows-plain-tilde : Tells (Allows.Post tt) (PlainAscii, (126, tt)) true false
+  pub allows-plain-160 : Tells (Allows.Post tt) (PlainAscii, (160, tt)) false true
   -- `holds_only`: a look at the first byte alone, and at the last
   pub holds-only : OneAnswer HoldsOnly.Post
   pub holds-only-first : Tells (HoldsOnly.Post (one κ)) (Digits, (lent (ascii "1a"), tt)) false true
