@@ -1,5 +1,5 @@
 #!/usr/bin/env python3
-"""Our own cases of card files, written by hand from document 01 and request Q-7 of document 02.
+"""Our own cases of card files, written by hand from document 01 and requests Q-7 and Q-2 of document 02.
 
     tests/card_cases.py           write the files below
     tests/card_cases.py --list    and print where in `stdout` each case stands, its name and its answer
@@ -300,8 +300,8 @@ card("7: authorisation, first", sale(put(CV, 176, b"x")), "R 7 3 176")
 card("7: authorisation, last", sale(put(CV, 187, b"x")), "R 7 3 176")
 card("7: brand, first", sale(put(CV, 188, b"\x1f")), "R 7 3 188")
 card("7: brand, last", sale(put(CV, 190, b"\x7f")), "R 7 3 188")
-card("7: product code, first", sale(put(CV, 191, b"\xe9")), "R 7 3 191")
-card("7: product code, last", sale(put(CV, 193, b"\xff")), "R 7 3 191")
+card("7: product code, first", sale(put(CV, 191, b"\x1f")), "R 7 3 191")
+card("7: product code, last", sale(put(CV, 193, b"\x7f")), "R 7 3 191")
 card("7: NSEQ, first", sale(put(CV, 194, b"x")), "R 7 3 194")
 card("7: NSEQ, last", sale(put(CV, 199, b"x")), "R 7 3 194")
 card("AN takes letters, signs, 32 and 126", sale(put(put(CV, 165, b" ~-x."), 188, b"aZ*")), ACCEPTED)
@@ -475,6 +475,53 @@ for text in (b" 004111111111111111", b"000411111111111111 ", b"0004111 111111111
              b"\t" * 19, b"\x00" * 19):
     card(f"AJ, 7 at 163: {text}", adjustment(put(AJ, 163, text)), "R 7 3 163")
 
+# ---- AN holds 32 to 126 and 160 to 255 -------------------------------------------------------------------------------------------------------------
+
+# Each kind: the file with another record of it, the record, its number, what its file is answered; the first and last positions of its AN fields, and
+# the columns of its closed sets and of its other fields.
+KINDS = (
+    ("A0", head, A0, 1, ACCEPTED, ((29, 58),), (3, 69), (9, 17, 23, 59, 63, 70)),
+    ("L0", batch_head, L0, 2, ACCEPTED, (), (11,), (3, 13)),
+    ("CV", sale, CV, 3, ACCEPTED, ((3, 17), (165, 175), (188, 190), (191, 193)), (44, 53, 54),
+     (18, 30, 38, 45, 55, 66, 77, 88, 107, 109, 111, 123, 134, 145, 156, 159, 176, 194)),
+    ("AJ", adjustment, AJ, 3, ADJUSTED, ((3, 17), (80, 109), (152, 162), (182, 184), (185, 187)), (66, 75, 76),
+     (18, 30, 38, 40, 52, 60, 67, 77, 110, 121, 132, 143, 146, 163, 188)),
+    ("L9", batch_end, L9, 4, ACCEPTED, (), (), (3, 9, 23)),
+    ("A9", end, A9, 5, ACCEPTED, (), (), (3, 9)),
+)
+TEXT, NO_TEXT = (b"\x7e", b"\xa0", b"\xad", b"\xff"), (b"\x7f", b"\x9f")  # 126, 160, 173, 255; 127, 159
+for kind, file, right, place, accepted, texts, sets, others in KINDS:
+    for first, last in texts:
+        for position in (first, last):
+            for byte in TEXT:
+                card(f"{kind}, byte {byte[0]} at {position}", file(put(right, position, byte)), accepted)
+            for byte in NO_TEXT:
+                card(f"{kind}, 7 at {first}: byte {byte[0]} at {position}", file(put(right, position, byte)), f"R 7 {place} {first}")
+    for byte in TEXT + NO_TEXT:
+        card(f"{kind}, 4: byte {byte[0]} in the kind", file(put(right, 2, byte)), f"R 4 {place} 1")
+        for column in sets:
+            card(f"{kind}, 8 at {column}: byte {byte[0]} is in no closed set", file(put(right, column, byte)), f"R 8 {place} {column}")
+        for column in others:
+            card(f"{kind}, 7 at {column}: byte {byte[0]} is no digit", file(put(right, column, byte)), f"R 7 {place} {column}")
+
+# Names as they are written in Latin-1, a byte for each letter; under both editions. In UTF-8 a letter has two bytes, which are judged like any others.
+NAMED = put(A0, 29, "ESTAÇÕES DE SÃO JOÃO".encode("latin-1"))
+ACCENTED = put(CV, 3, "CONCEIÇÃO Nº 7".encode("latin-1"))
+ACCENTED_AJ = put(put(AJ, 3, "CONCEIÇÃO Nº 7".encode("latin-1")), 80, "LANÇAMENTO DE BÔNUS DO MÊS".encode("latin-1"))
+for edition in (1, 2):
+    card(f"accents in the header's name, edition {edition}", head(NAMED), ACCEPTED, edition)
+    card(f"accents in a store, edition {edition}", sale(ACCENTED), ACCEPTED, edition)
+    card(f"accents in an adjustment, edition {edition}", adjustment(ACCENTED_AJ), ADJUSTED, edition)
+HIGH = bytes(range(160, 256))
+card("every byte from 160 on", file_of((4, 20975, put(CV, 3, HIGH[:15]), put(CV, 3, HIGH[15:30]), put(put(AJ, 3, HIGH[30:45]), 80, HIGH[45:75]),
+                                        put(DEBIT, 80, HIGH[66:]))), "A 20231115 000042 8 1 2 20000 500 19500 1 2925 1 1950")
+card("UTF-8, both bytes from 160 on", head(put(A0, 29, "é".encode("utf-8"))), ACCEPTED)
+card("UTF-8, the second byte below 160", head(put(A0, 29, "É".encode("utf-8"))), "R 7 1 29")
+card("an accent and byte 159", sale(put(ACCENTED, 17, b"\x9f")), "R 7 3 3")
+card("byte 159 before the NSU's letter", sale(put(CV, 17, b"\x9f" b"x")), "R 7 3 3")
+card("an accent, and then the NSU's letter", sale(put(CV, 17, b"\xe9" b"x")), "R 7 3 18")
+card("accents, and the fault of a later record", whole(NAMED, L0, ACCENTED, L9, put(A9, 3, b"000006")), "R 11 5 3")
+
 # ---- Adjustments: what the trailers cover, and what is answered -----------------------------------------------------------------------------------
 
 MIXED = "A 20231115 000042 7 1 1 10000 250 9750 1 2925 1 1950"
@@ -614,6 +661,10 @@ feed("AJ, an LF inside its description is 7, not 3", [A0, L0, put(AJ, 90, b"\n")
 feed("AJ, a blank card with an LF", [A0, L0, put(AJ, 163, b" " * 18 + b"\n")], "-", "-", "R 7 3 163")
 feed("AJ, a CR LF at its end is two bytes more", [A0, L0, AJ + CRLF], "-", "-", "R 6 3 0")
 feed("AJ, 10", [A0, L0, put(AJ, 142, b"6"), L9, CLOSE], "-", "-", *["R 10 3 132"] * 3)
+feed("accents in the header's name and in a store", fed(whole(NAMED, L0, ACCENTED, L9, A9)), *["-"] * 5, ACCEPTED)
+feed("accents in an adjustment, edition 1", fed(adjustment(ACCENTED_AJ)), *["-"] * 5, ADJUSTED, edition=1)
+feed("byte 159 in the header's name", [put(NAMED, 58, b"\x9f"), L0, CLOSE], *["R 7 1 29"] * 3)
+feed("an accent in the card", [A0, L0, put(CV, 88, b"\xe9"), CLOSE], "-", "-", *["R 7 3 88"] * 2)
 
 # ---- What no file of cases can say: editions of more than a byte, and states far into a file ------------------------------------------------
 

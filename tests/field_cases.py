@@ -23,6 +23,7 @@ assert len(FIELDS) == 26 and len(CV) == 199
 
 CASES = [(f"field {n}", n, CV, FIELDS[n - 1]) for n in range(1, 27) if n != 13]
 CASES += [
+    ("accents are handed back as they stand", 2, CV[:2] + b"CONCEI\xc7\xc3O N\xba 7 " + CV[17:], b"CONCEI\xc7\xc3O N\xba 7 "),
     ("the card is never handed back", 13, CV, "R 14 0 0"),
     ("no field 0", 0, CV, "R 14 0 0"),
     ("no field 27", 27, CV, "R 14 0 0"),

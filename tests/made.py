@@ -53,10 +53,10 @@ def aj(adjustment, nseq):
     return made
 
 
-def card_file(batches, date=20231115, movement=42):
+def card_file(batches, date=20231115, movement=42, name=b"REDE DE POSTOS"):
     """The records of a card file, each with its CR LF. A batch is an iterable of sales and adjustments; SALE and ADJUSTMENT have all their names."""
     nseq = 1
-    a0 = b"A0001.7d%08d083000%06d%-30b0101000777N%06d" % (date, movement, b"REDE DE POSTOS", nseq)
+    a0 = b"A0001.7d%08d083000%06d%-30b0101000777N%06d" % (date, movement, name, nseq)
     assert len(a0) == 75
     yield a0 + CRLF
     for batch in batches:

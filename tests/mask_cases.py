@@ -1,5 +1,5 @@
 #!/usr/bin/env python3
-"""Our own cases of masked copies, written by hand from document 01 and request Q-7 of document 02.
+"""Our own cases of masked copies, written by hand from document 01 and requests Q-7 and Q-2 of document 02.
 
     tests/mask_cases.py           write the files below
     tests/mask_cases.py --list    and print where in `stdout` each case stands, its name and its answer
@@ -145,6 +145,18 @@ case("AJ, and where its card is blank", adjustment(put(TOLD_AJ, AJ_CARD, b" " * 
 case("AJ inside A0's name and a store", whole(put(A0, 29, b"AJ"), L0, put(CV, 3, b"AJ"), L9, A9), ACCEPTED,
      whole(put(A0, 29, b"AJ"), L0, put(MASKED_CV, 3, b"AJ"), L9, A9))
 
+# Accents stay, and count as bytes like any others: the card's places are where they were.
+SOUTH = "ESTAÇÕES DO SUL, Nº 310".encode("latin-1")
+ACCENTED, ACCENTED_AJ = put(CV, 3, SOUTH[:15]), put(put(AJ, 3, SOUTH[:15]), 80, SOUTH)
+for edition in (2, 1):
+    case(f"accents stay, edition {edition}", whole(put(A0, 29, SOUTH), L0, ACCENTED, L9, A9), ACCEPTED,
+         whole(put(A0, 29, SOUTH), L0, put(ACCENTED, CARD, b"000411111******1111"), L9, A9), edition=edition)
+    case(f"AJ, accents stay, edition {edition}", adjustment(ACCENTED_AJ), ADJUSTED, adjustment(put(ACCENTED_AJ, AJ_CARD, b"000411111******1111")),
+         edition=edition)
+for byte in (b"\xa0", b"\xad", b"\xff"):
+    fields = put(put(put(put(CV, 3, byte * 15), 165, byte * 11), 188, byte * 3), 191, byte * 3)
+    case(f"byte {byte[0]} all over the AN fields", sale(fields), ACCEPTED, sale(put(fields, CARD, b"000411111******1111")))
+
 # ---- The output's length -------------------------------------------------------------------------------------------------------------------
 
 # The five records and their line ends are 344 bytes.
@@ -176,6 +188,9 @@ for size in (344, 600):
     case("11: A9's count, output %d" % size, whole(A0, L0, CV, L9, b"A9" b"000004" b"000005"), "R 11 5 3", size=size)
     case("4: an unknown kind, output %d" % size, sale(put(CV, 1, b"CP")), "R 4 3 1", size=size)
     case("3: no line end, output %d" % size, FIVE[:-2], "R 3 5 0", size=size)
+    case("7: byte 159 in the store, output %d" % size, sale(put(CV, 3, b"\x9f")), "R 7 3 3", size=size)
+    case("7: an accent in the card, output %d" % size, sale(put(CV, 100, b"\xe9")), "R 7 3 88", size=size)
+    case("AJ, 7: an accent in the card, output %d" % size, adjustment(put(AJ, 170, b"\xe9")), "R 7 3 163", size=size)
     case("AJ, 5: behind A0, output %d" % size, whole(A0, numbered(AJ, 2)), "R 5 2 0", size=size)
     case("AJ, 6: as wide as CV, output %d" % size, sale(put(CV, 1, b"AJ")), "R 6 3 0", size=size)
     case("AJ, 7: a card of digits and blanks, output %d" % size, aj_carded(b"   4111111111111111"), "R 7 3 163", size=size)

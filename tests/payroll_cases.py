@@ -1,5 +1,5 @@
 #!/usr/bin/env python3
-"""Our own cases of payroll files, written by hand from document 01.
+"""Our own cases of payroll files, written by hand from document 01; request Q-2 of document 02 leaves them as they are.
 
     tests/payroll_cases.py           write the files below
     tests/payroll_cases.py --list    and print where in `stdout` each case stands, its name and its answer
@@ -219,6 +219,12 @@ case("7: byte 31", header(put(H, 240, b"\x1f")), "R 7 1 240")
 case("7: byte 127", header(put(H, 9, b"\x7f")), "R 7 1 9")
 case("7: byte 0", opened(put(B1, 100, b"\x00")), "R 7 2 100")
 case("7: byte 255", closed(put(T1, 42, b"\xff")), "R 7 4 42")
+# no accents: in the header's name, and at the end of each record
+case("byte 126 in the header's name", header(put(H, 80, b"~")), ACCEPTED)
+for byte in (b"\x7f", b"\x9f", b"\xa0", b"\xad", b"\xff"):
+    case("7: byte %d in the header's name" % byte[0], header(put(H, 80, byte)), "R 7 1 80")
+for name, file, right, place in RECORDS:
+    case("7: byte 160, %s" % name, file(put(right, 240, b"\xa0")), "R 7 %d 240" % place)
 case("7: a CR", ended(put(F, 30, b"\r")), "R 7 5 30")
 case("7: the first of two stray bytes", header(put(put(H, 50, b"\t"), 40, b"\t")), "R 7 1 40")
 case("7: a stray byte before the fields: another bank and byte 31 in 240", header(put(put(H, 1, b"341"), 240, b"\x1f")), "R 7 1 240")

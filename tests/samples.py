@@ -37,13 +37,15 @@ SHEET = b"DSH" + bytes([0, 1, 2]) + b"20231115" b"000042" + b"".join(
     number.to_bytes(width, "big") for number, width in ((3, 4), (4, 4), (65990, 8), (1650, 8), (64340, 8)))
 
 # A day with adjustments. To L9 go 10000 and a credit of 2925; 15000 less a debit of 4875, and a credit of 1500 for no sale.
+# Names have their accents, each one byte.
+NETWORK, SAO_JOAO, BONUS = (text.encode("latin-1") for text in ("ESTAÇÕES REUNIDAS", "POSTO SÃO JOÃO", "BÔNUS DO MÊS"))
 ADJUSTED = [
     [sale(b"POSTO AURORA", 10000, 250, b"4111111111111111"),
      adjustment(b"POSTO AURORA", 3000, 75, b"4111111111111111")],
-    [sale(b"POSTO DO LAGO", 30000, 750, b"4012888888881881", nsu=3, **instalment(1, 2, 15000, 375)),
-     adjustment(b"POSTO DO LAGO", 5000, 125, b"378282246310005", original_nsu=4, instalment=1, nsu=9002, type=DEBIT, reason=12,
+    [sale(SAO_JOAO, 30000, 750, b"4012888888881881", nsu=3, **instalment(1, 2, 15000, 375)),
+     adjustment(SAO_JOAO, 5000, 125, b"378282246310005", original_nsu=4, instalment=1, nsu=9002, type=DEBIT, reason=12,
                 description=b"VENDA DEVOLVIDA"),
-     adjustment(b"POSTO DO LAGO", 1500, 0, BLANK, original_nsu=0, original_date=0, nsu=9003, reason=30, description=b"BONUS DO MES")],
+     adjustment(SAO_JOAO, 1500, 0, BLANK, original_nsu=0, original_date=0, nsu=9003, reason=30, description=BONUS)],
 ]
 
 WAGES = [
@@ -60,7 +62,7 @@ def refused():
 
 FILES = {
     "day.card": b"".join(card_file(DAY)),
-    "adjusted.card": b"".join(card_file(ADJUSTED, movement=43)),
+    "adjusted.card": b"".join(card_file(ADJUSTED, movement=43, name=NETWORK)),
     "refused.card": b"".join(refused()),
     "wages.payroll": b"".join(payroll_file(WAGES)),
     "day.sheet": SHEET,

@@ -17,7 +17,7 @@ an output holds after the call. No program under test was asked for an answer.
 A line of a sheet to read is `A edition date movement batches sales gross discount net` or `R number record column`; of a sheet to write, `A` or
 `R number record column`, and the whole output in hex between brackets; of a file's sheet, the answer of the card file and that output.
 """
-from records import ACCEPTED, ADJUSTED, AJ, CV, DEBIT, FIVE, adjustment, file_of
+from records import A0, A9, ACCEPTED, ADJUSTED, AJ, CV, DEBIT, FIVE, L0, L9, adjustment, file_of, put, sale, whole
 from stored import number, output, run, write_cases, write_stdout
 
 # ---- How a sheet is built ------------------------------------------------------------------------------------------------------------------
@@ -194,6 +194,8 @@ OF_FILE = [
     ("the sheet carries the edition stated", 1, 52, FIVE, ACCEPTED, SHEET_OF_EDITION_1),
     ("adjustments are not on the sheet", 2, 52, file_of((3, 10975, CV, AJ, DEBIT)), "A 20231115 000042 7 1 1 10000 250 9750 1 2925 1 1950", SHEET),
     ("a batch of an adjustment alone", 2, 53, adjustment(AJ), ADJUSTED, hexed(sales="00000000", gross=NOTHING, discount=NOTHING, net=NOTHING)),
+    ("accents are not on the sheet", 2, 52, whole(put(A0, 29, b"\xc9"), L0, put(CV, 3, b"\xff" * 15), L9, A9), ACCEPTED, SHEET),
+    ("byte 159 in the store", 2, 52, sale(put(CV, 3, b"\x9f")), "R 7 3 3", b""),
     ("an output of 51", 2, 51, FIVE, "R 2 0 0", b""),
     ("no output", 2, 0, FIVE, "R 2 0 0", b""),
     ("1 before 2", 3, 51, FIVE, "R 1 0 0", b""),
