@@ -16,7 +16,7 @@ within low high b = leb low b && leb b high
 abbrev pub digit : ℕ → Bool
 digit = within 48 57
 
--- "In card files an AN field may .. hold bytes 160 to 255 besides 32 to 126"
+-- AN of a card file: "AN is bytes 32 to 126", and by document 02 "In card files an AN field may from now on hold bytes 160 to 255 besides"
 abbrev pub cardText : ℕ → Bool
 cardText b = within 32 126 b || within 160 255 b
 
