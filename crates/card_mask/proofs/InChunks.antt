@@ -7,6 +7,7 @@ use native.Mathlib.Omega.{arith}
 use lib.ListN.{length, take, drop, length-append}
 use lib.Seq.{take-at, drop-at}
 use Rattle.lines.specs.Lines.{Lines, lf, cut, rejoined}
+use Rattle.lines.proofs.Cuts.{cut-is-cut}
 use Rattle.chunks.specs.Chunks.{joinedChunks}
 use Rattle.chunks.proofs.Streams.{rejoined-behind, cut-on}
 use Rattle.card_run.specs.declared.stage.Stage.{Stage}
@@ -30,11 +31,14 @@ lines-length (p ∷ ps) rest =
     ap₂ (λ (m n : ℕ). m + suc n) (piece-length p) (lines-length ps rest) ∙
     sym (length-append p (lf ∷ rejoined ps rest))
 
+pub masked-length : (s : List ℕ) → length (maskedFile s) ≡ length s
+masked-length s = lines-length (cut s .pieces) (cut s .rest) ∙ ap length (cut-is-cut s .whole)
+
 -- the masked lines stand in front, and the rest behind them
 lines-then-rest : (s : List ℕ) → maskedFile s ≡ rejoined (map maskedPiece (cut s .pieces)) [] ++ cut s .rest
 lines-then-rest s = sym (rejoined-behind (map maskedPiece (cut s .pieces)) [] (cut s .rest))
 
-finished-part : (s : List ℕ) → take (finishedIn s) (maskedFile s) ≡ rejoined (map maskedPiece (cut s .pieces)) []
+pub finished-part : (s : List ℕ) → take (finishedIn s) (maskedFile s) ≡ rejoined (map maskedPiece (cut s .pieces)) []
 finished-part s =
     ap (take (finishedIn s)) (lines-then-rest s) ∙ take-at (rejoined (map maskedPiece (cut s .pieces)) []) (cut s .rest) (finishedIn s) (lines-length (cut s .pieces) [])
 

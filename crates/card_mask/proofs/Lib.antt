@@ -4,3 +4,5 @@ pub mod Copies
 pub mod Answers
 pub mod InChunks
 pub mod Finished
+mod Clear
+pub mod Again
