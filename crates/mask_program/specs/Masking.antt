@@ -1,4 +1,4 @@
--- What is promised of a buffer whose lines were masked and written: the unfinished one waits at its start.
+-- What may be written, and what is promised of a buffer whose lines were masked and written: the unfinished one waits at its start.
 use Prim.Native.Nat.{ℕ, _-_, _<_, _≤_}
 use mathlib.Core.Path.{_≡_}
 use mathlib.Core.List.{List, []}
@@ -10,6 +10,11 @@ use Rattle.mask_program.specs.declared.copy.Written.{Written}
 use Rattle.mask_program.specs.declared.copy.Written.the-variants.{Tail, Failed}
 use Rattle.mask_program.specs.declared.copy.Next.{Next}
 use Rattle.mask_program.specs.declared.copy.Next.the-variants.{Bytes, End, Failed as NotRead}
+
+-- what may be written: lines that are all finished, since a part of a record is not masked, and that are their own masked form
+pub record MayBeWritten (lines : List ℕ) : Type 0 where
+  pub all-finished : finishedIn lines ≡ length lines
+  pub own-masked : maskedFile lines ≡ lines
 
 -- the bytes from one place up to another were moved to the start
 pub record MovedToFront (before : List ℕ) (from end : ℕ) (after : List ℕ) : Type 0 where

@@ -1,7 +1,7 @@
 // A card file's lines, masked and written as long as the file is not refused.
 ghost use Prim.Native.Nat.{_≤_, _<_};
 ghost use lib.ListN.{length};
-ghost use Rattle.mask_program.specs.Masking.{leaves, nextWithin};
+ghost use Rattle.mask_program.specs.Masking.{MayBeWritten, leaves, nextWithin};
 ghost use Rattle.card_program.specs.Checked.{Checked};
 use crate::buffer;
 use card_program::outcome;
@@ -11,6 +11,13 @@ use files::reading;
 use files::reading::Got;
 use out_file::draft::Draft;
 use program::mistake::Mistake;
+
+// Writes finished lines, which are masked. Nothing else here writes.
+fn write_finished(draft: Draft, lines: &[u8]) -> bool
+    requires { ⌜ MayBeWritten (now lines) ⌝ }
+{
+    draft.write(lines)
+}
 
 // What comes of writing the lines of a chunk.
 enum Written {
@@ -25,7 +32,7 @@ fn write_lines(draft: Draft, buffer: &mut [u8], end: usize) -> Written
     ensures { λ r. ⌜ leaves (now (buffer .entry)) end (now (buffer .exit)) r ⌝ }
 {
     let lines = card_mask::mask_lines(&mut buffer[0..end]);
-    if !draft.write(&buffer[0..lines]) {
+    if !write_finished(draft, &buffer[0..lines]) {
         return Written::Failed;
     }
     buffer::move_to_front(buffer, lines, end);

@@ -1,22 +1,26 @@
--- `mask_program::copy::write_lines` meets its contract: the finished lines lie within the bytes, and the tail is kept below the buffer's length.
+-- `mask_program::copy::write_lines` meets its contract: the finished lines are masked, so they may be written, they lie within the bytes, and the tail is
+-- kept below the buffer's length.
 use Prim.Native.Nat.{_-_, _≤_}
 use mathlib.Core.Path.{_≡_}
 use native.Mathlib.Omega.{arith}
 use lib.ListN.{length, drop, length-take}
 use Rattle.mask_program.specs.Masking.{waitingSize}
 use Rattle.mask_program.proofs.Waiting.{leaves-room, waits-in-front}
-use Rattle.mask_program.proofs.Finished.{finished-in-front}
+use Rattle.mask_program.proofs.Finished.{finished-in-front, lines-may-be-written}
 use borrow.Author.Needs.{needs}
 use Rattle.mask_program.proofs.copy.write_lines.Statement.{statement}
 use Rattle.mask_program.proofs.copy.write_lines.Tie as tie
+
+write-finished-requires : tie.Need-write-finished-requires
+write-finished-requires c κs = lines-may-be-written _ (c .before .before .before .before .mask-lines .ensures)
 
 -- the finished lines lie within the bytes
 finished : (c : tie.After-mask-lines) → c .mask-lines .result ≤ c .before .before .before .args .end
 finished c =
     finished-in-front (c .before .before .before .args .buffer .now) (c .before .before .before .args .end) _ (c .mask-lines .ensures .counts)
 
-part-write-end : tie.Need-part-write-end
-part-write-end c = omega (arith, finished (c .before .before .before))
+part-write-finished-end : tie.Need-part-write-finished-end
+part-write-finished-end c = omega (arith, finished (c .before .before .before))
 
 move-to-front-requires : tie.Need-move-to-front-requires
 move-to-front-requires c κs = (finished (c .before .before .before .before .before .before .before), search needs)
@@ -50,8 +54,8 @@ write-lines-spec =
     (λ c κs. search needs)
     (λ c. search needs)
     (λ c. search needs)
-    part-write-end
-    (λ c κs. search needs)
+    part-write-finished-end
+    write-finished-requires
     (λ c. search needs)
     (λ c. search needs)
     move-to-front-requires
