@@ -2,10 +2,27 @@
 use Prim.Native.Nat.{ℕ}
 use mathlib.Core.Path.{_≡_}
 use mathlib.Core.List.{List}
+use Rattle.edition.specs.declared.Edition.{Edition}
+use Rattle.edition.specs.declared.Edition.the-variants.{Of, NoNumber}
 use Rattle.card_file.specs.CardFile.{checkOf}
+use Rattle.program.specs.declared.mistake.Mistake.{Mistake as Told}
+use Rattle.program.specs.declared.mistake.Mistake.the-variants.{Usage, TooLong, EditionNoNumber, OutNoFile, System}
 use Rattle.card_program.specs.declared.outcome.Outcome.{Outcome}
 use Rattle.card_program.specs.declared.outcome.Outcome.the-variants.{Answer, Mistake}
 
+-- a mistake of the files, and none of the arguments
+abbrev pub ofTheFiles : Told → Type 0
+ofTheFiles (Usage program) = ⊥
+ofTheFiles TooLong = ⊥
+ofTheFiles EditionNoNumber = ⊥
+ofTheFiles OutNoFile = Unit {0}
+ofTheFiles (System failed error) = Unit {0}
+
 abbrev pub Checked : ℕ → Outcome → Type 0
 Checked edition (Answer answer) = (bytes : List ℕ) × (answer ≡ checkOf edition bytes)
-Checked edition (Mistake mistake) = Unit {0}
+Checked edition (Mistake mistake) = ofTheFiles mistake
+
+-- the same by the edition that an argument states: "The edition is stated by the caller, never guessed from the file"
+abbrev pub Worked : Edition → Outcome → Type 0
+Worked NoNumber outcome = outcome ≡ Mistake EditionNoNumber
+Worked (Of edition) outcome = Checked edition outcome

@@ -1,4 +1,5 @@
-// The work of the program `card`: from a descriptor to an outcome, and from an outcome to what is printed.
+// The work of the program `card`: from the bytes of its argument and a descriptor to an outcome, and from an outcome to what is printed.
 pub mod check;
 pub mod outcome;
 pub mod verdict;
+pub mod work;

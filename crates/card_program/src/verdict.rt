@@ -1,41 +1,82 @@
-// The verdict of a card file on standard output, as document 01 prints it. No contract can say what is written.
+// What is printed of a card file, as document 01 prints it: put into a buffer, and written by one call.
+ghost use mathlib.Core.Path.{_≡_};
+ghost use Rattle.wording.specs.Put.{Puts};
+ghost use Rattle.card_program.specs.Verdict.{totalsText, acceptedText, verdictText, outcomeText};
 use crate::outcome::Outcome;
 use card_run::answer::Accepted;
 use card_run::answer::CardAnswer;
+use files::error;
+use libc::STDERR_FILENO;
+use libc::STDOUT_FILENO;
 use program::mistake;
-use program::printed;
+use program::mistake::Failed;
+use program::mistake::Mistake;
 use totals::amounts::Totals;
+use wording::line;
+use wording::put;
 
-// The lines of the totals; the answer is whether they were written, as of each function here.
-pub fn print_amounts(totals: Totals) -> bool {
+// Room for every text.
+const ROOM: usize = 256;
+
+// Each function here puts its text behind the first `at` bytes, and answers how many bytes stand there then. First the lines of the totals.
+pub fn put_totals(totals: Totals, out: &mut [u8], at: usize) -> usize
+    ensures { λ r. ⌜ Puts (totalsText totals) (now (out .entry)) at r (now (out .exit)) ⌝ }
+{
     let amounts = totals.amounts;
-    printed::line(b"GROSS", amounts.gross)
-        && printed::line(b"DISCOUNT", amounts.discount)
-        && printed::line(b"NET", amounts.net)
+    let sales = line::line(b"SALES", totals.sales, out, at);
+    let gross = line::line(b"GROSS", amounts.gross, out, sales);
+    let discount = line::line(b"DISCOUNT", amounts.discount, out, gross);
+    line::line(b"NET", amounts.net, out, discount)
 }
 
-fn print_accepted(accepted: Accepted) -> bool {
-    let totals = accepted.totals;
-    printed::text(b"ACCEPTED\n")
-        && printed::line(b"RECORDS", accepted.records)
-        && printed::line(b"BATCHES", accepted.batches)
-        && printed::line(b"SALES", totals.sales)
-        && print_amounts(totals)
+fn put_accepted(accepted: Accepted, out: &mut [u8], at: usize) -> usize
+    ensures { λ r. ⌜ Puts (acceptedText accepted) (now (out .entry)) at r (now (out .exit)) ⌝ }
+{
+    let word = put::text(b"ACCEPTED\n", out, at);
+    let records = line::line(b"RECORDS", accepted.records, out, word);
+    let batches = line::line(b"BATCHES", accepted.batches, out, records);
+    put_totals(accepted.totals, out, batches)
 }
 
-// The verdict of a file that was read to its end or refused; one that is going on has none, and none is printed.
-fn print_answer(answer: CardAnswer) -> bool {
+fn put_verdict(answer: CardAnswer, out: &mut [u8], at: usize) -> usize
+    ensures { λ r. ⌜ Puts (verdictText answer) (now (out .entry)) at r (now (out .exit)) ⌝ }
+{
     match answer {
-        CardAnswer::GoingOn => false,
-        CardAnswer::Accepted(accepted) => print_accepted(accepted),
-        CardAnswer::Refused(refusal) => printed::refused(refusal),
+        CardAnswer::GoingOn => put::text(b"", out, at),
+        CardAnswer::Accepted(accepted) => put_accepted(accepted, out, at),
+        CardAnswer::Refused(refusal) => line::refused(refusal, out, at),
     }
 }
 
-// Prints the verdict, or tells the mistake.
-pub fn print_outcome(outcome: Outcome) {
+// The verdict, or the mistake's sentence.
+pub fn put_outcome(outcome: Outcome, out: &mut [u8], at: usize) -> usize
+    ensures { λ r. ⌜ Puts (outcomeText outcome) (now (out .entry)) at r (now (out .exit)) ⌝ }
+{
     match outcome {
-        Outcome::Answer(answer) => mistake::tell_unless(print_answer(answer)),
-        Outcome::Mistake(mistake) => mistake::tell(mistake),
+        Outcome::Answer(answer) => put_verdict(answer, out, at),
+        Outcome::Mistake(mistake) => mistake::put(mistake, out, at),
     }
+}
+
+// Writes an outcome's text, and no other: a verdict to standard output, a mistake to standard error.
+fn write(outcome: Outcome, text: &[u8])
+    requires { ⌜ now text ≡ outcomeText outcome ⌝ }
+{
+    match outcome {
+        Outcome::Answer(_) => {
+            if !io::write_all(STDOUT_FILENO, text) {
+                mistake::tell(Mistake::System(Failed::Print, error::number()));
+            }
+        }
+        Outcome::Mistake(_) => {
+            io::write_all(STDERR_FILENO, text);
+        }
+    }
+}
+
+// Prints the verdict, or tells the mistake, by one call.
+pub fn print(outcome: Outcome) {
+    let mut room = [0u8; ROOM];
+    let size = put_outcome(outcome, &mut room, 0);
+    write(outcome, &room[..size]);
 }

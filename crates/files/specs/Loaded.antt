@@ -7,11 +7,11 @@ use Rattle.files.specs.declared.reading.Got.{Got}
 -- a whole file lies within a buffer of this size
 abbrev pub loadedWithin : ℕ → Loaded → Type 0
 loadedWithin size (Bytes n) = n ≤ size
-loadedWithin size Failed = Unit {0}
+loadedWithin size (Failed error) = Unit {0}
 loadedWithin size TooLong = Unit {0}
 
 -- one read moves at least a byte, and no more than there is room for
 abbrev pub gotWithin : ℕ → Got → Type 0
 gotWithin size (Got.Bytes n) = (0 < n) × (n ≤ size)
 gotWithin size Got.End = Unit {0}
-gotWithin size Got.Failed = Unit {0}
+gotWithin size (Got.Failed error) = Unit {0}

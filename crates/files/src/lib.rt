@@ -1,2 +1,3 @@
-// Reading files by descriptor.
+// Reading files by descriptor, and the number of an error.
+pub mod error;
 pub mod reading;

@@ -1,1 +1,3 @@
 pub mod Argument
+pub mod Reason
+pub mod Sentence

@@ -1,4 +1,4 @@
-// What the programs share: the edition that an argument states, the words and lines of a verdict, and what is said where there is none.
+// What the programs share: their arguments, and what is said where there is no verdict.
 pub mod argument;
 pub mod mistake;
-pub mod printed;
+mod reason;

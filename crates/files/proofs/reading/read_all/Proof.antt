@@ -16,7 +16,7 @@ abbrev μ-loop : tie.MeasureT-loop
 μ-loop fd buffer₀ done₀ buffer done = length buffer - done
 
 -- what the read moved
-moved : (c : tie.After-known-told Inv-loop μ-loop) →
+moved : (c : tie.After-known-told2 Inv-loop μ-loop) →
     (0 < c .before .n .given .0 .0) ×
     (c .before .n .given .0 .0 ≤
     length (c .before .before .before .before .before .before .before .before .loop .buffer) -

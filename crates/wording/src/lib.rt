@@ -1,0 +1,3 @@
+// Texts for people, put into a buffer: words, numbers and lines, one behind the other.
+pub mod line;
+pub mod put;
