@@ -1,2 +1,7 @@
+pub mod Decisions
+pub mod Drives
+pub mod Everywhere
+pub mod Runs
 pub mod Slashes
 pub mod Texts
+pub mod WayOn

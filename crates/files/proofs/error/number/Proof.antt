@@ -17,11 +17,10 @@ not-below (negsuc n) e = absurd (true≢false e)
 
 cast-result : tie.Need-cast-result
 cast-result c =
-    let r = c .before .errno in
-    (
+    let r = c .before .errno in (
       not-below (toZ w32 (ofZ w32 (r .result))) (c .if1 .left),
       subst (λ (z : ℤ). Fits w64 (natAbs z)) (sym (toZ-ofZ w32 (r .result) (record { sfits = r .ok })))
-      (record { fits = lt-of-le-of-lt (natAbs-le (r .result) (r .ok)) (lit< tt) })
+          (record { fits = lt-of-le-of-lt (natAbs-le (r .result) (r .ok)) (lit< tt) }),
     )
 
 pub number-spec : {M : Type 1} → statement M
