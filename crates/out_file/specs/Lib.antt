@@ -1,3 +1,4 @@
 pub mod Beside
 pub mod Driving
+pub mod Saved
 pub mod Saving

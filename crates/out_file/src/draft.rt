@@ -48,7 +48,7 @@ impl Draft {
     }
 
     // Notes the error that the last call left, where it is the first.
-    fn noted(self) -> Draft
+    pub fn noted(self) -> Draft
         ensures { λ r. ⌜ r .step ≡ self .step ⌝ }
     {
         let mut noted = self;
@@ -106,7 +106,8 @@ impl Draft {
         draft
     }
 
-    // Writes what comes next in the file, and answers whether all of it was written. A file that does not wait for it is not written to.
+    // Writes what comes next in the file, and answers whether all of it was written: where not, the caller notes the error. A file that does not wait for
+    // it is not written to.
     pub fn write(self, bytes: &[u8]) -> bool
         ensures { λ r. ⌜ (r ≡ true → self .step ≡ Step.Write) ⌝ }
     {

@@ -4,4 +4,5 @@ mod call;
 pub mod draft;
 mod folder;
 pub mod place;
+pub mod saved;
 pub mod step;
