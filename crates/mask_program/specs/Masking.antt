@@ -9,7 +9,7 @@ use Rattle.card_mask.specs.Masked.{maskedFile, finishedIn}
 use Rattle.mask_program.specs.declared.copy.Written.{Written}
 use Rattle.mask_program.specs.declared.copy.Written.the-variants.{Tail, Failed}
 use Rattle.mask_program.specs.declared.copy.Next.{Next}
-use Rattle.mask_program.specs.declared.copy.Next.the-variants.{Bytes, End, Failed as NotRead}
+use Rattle.mask_program.specs.declared.copy.Next.the-variants.{Bytes, Over, Unwritten}
 
 -- what may be written: lines that are all finished, since a part of a record is not masked, and that are their own masked form
 pub record MayBeWritten (lines : List ℕ) : Type 0 where
@@ -36,10 +36,10 @@ waiting bytes = drop (finishedIn bytes) (maskedFile bytes)
 -- behind the first bytes of a buffer: what waits stands at its start, and leaves room for the next read
 abbrev pub leaves : List ℕ → ℕ → List ℕ → Written → Type 0
 leaves before end after (Tail n) = (n < length after) × (take n after ≡ unlessFull (length before) (waiting (take end before)))
-leaves before end after Failed = Unit {0}
+leaves before end after (Failed error) = Unit {0}
 
 -- the unfinished line and what was read behind it lie within the buffer
 abbrev pub nextWithin : ℕ → Next → Type 0
 nextWithin room (Bytes tail end) = (tail ≤ end) × (end ≤ room)
-nextWithin room End = Unit {0}
-nextWithin room (NotRead mistake) = Unit {0}
+nextWithin room (Over got) = Unit {0}
+nextWithin room (Unwritten error) = Unit {0}

@@ -7,9 +7,11 @@ use crate::buffer;
 use card_program::outcome;
 use card_program::outcome::Outcome;
 use card_stream::Stream;
+use files::error;
 use files::reading;
 use files::reading::Got;
 use out_file::draft::Draft;
+use program::mistake::Failed;
 use program::mistake::Mistake;
 
 // Writes finished lines, which are masked. Nothing else here writes.
@@ -23,7 +25,8 @@ fn write_finished(draft: Draft, lines: &[u8]) -> bool
 enum Written {
     // All lines are written, and so many bytes of an unfinished one stand at the start of the buffer.
     Tail(usize),
-    Failed,
+    // The number of the error that a write left.
+    Failed(u64),
 }
 
 // Masks and writes the lines among the first `end` bytes, and moves the unfinished one to the front.
@@ -33,18 +36,20 @@ fn write_lines(draft: Draft, buffer: &mut [u8], end: usize) -> Written
 {
     let lines = card_mask::mask_lines(&mut buffer[0..end]);
     if !write_finished(draft, &buffer[0..lines]) {
-        return Written::Failed;
+        return Written::Failed(error::number());
     }
     buffer::move_to_front(buffer, lines, end);
     Written::Tail(buffer::tail_size(end - lines, buffer.len()))
 }
 
-// What is in the buffer once the lines of a chunk are written.
+// What comes once the lines of a chunk are written.
 enum Next {
-    // The unfinished line, up to the first place, and behind it what was read, up to the second.
+    // The unfinished line stands in the buffer, up to the first place, and behind it what was read, up to the second.
     Bytes(usize, usize),
-    End,
-    Failed(Mistake),
+    // A read that moved no byte.
+    Over(Got),
+    // The lines were not written: the error's number.
+    Unwritten(u64),
 }
 
 // Writes the lines among the first `end` bytes, and reads what comes next behind the unfinished one.
@@ -52,13 +57,15 @@ fn next_chunk(fd: i32, draft: Draft, buffer: &mut [u8], end: usize) -> Next
     requires { ⌜ (0 < length (now buffer)) × (end ≤ length (now buffer)) ⌝ }
     ensures { λ r. ⌜ nextWithin (length (now (buffer .entry))) r ⌝ }
 {
-    let Written::Tail(tail) = write_lines(draft, buffer, end) else {
-        return Next::Failed(Mistake::CannotWrite);
-    };
-    match reading::read_some(fd, &mut buffer[tail..]) {
-        Got::Failed => Next::Failed(Mistake::CannotRead),
-        Got::End => Next::End,
-        Got::Bytes(size) => Next::Bytes(tail, tail + size),
+    match write_lines(draft, buffer, end) {
+        Written::Failed(error) => Next::Unwritten(error),
+        Written::Tail(tail) => {
+            let got = reading::read_some(fd, &mut buffer[tail..]);
+            let Got::Bytes(size) = got else {
+                return Next::Over(got);
+            };
+            Next::Bytes(tail, tail + size)
+        }
     }
 }
 
@@ -80,11 +87,11 @@ pub(crate) fn copy_by(
     while reads > 0 {
         stream = stream.take(&buffer[tail..end]);
         if outcome::is_decided(stream.answer()) {
-            return Outcome::Answer(stream.end().answer());
+            return outcome::outcome_at(Got::Bytes(end), stream);
         }
         match next_chunk(fd, draft, buffer, end) {
-            Next::Failed(mistake) => return Outcome::Mistake(mistake),
-            Next::End => return Outcome::Answer(stream.end().answer()),
+            Next::Unwritten(error) => return Outcome::Mistake(Mistake::System(Failed::Write, error)),
+            Next::Over(got) => return outcome::outcome_at(got, stream),
             Next::Bytes(left, behind) => {
                 tail = left;
                 end = behind;
@@ -92,5 +99,5 @@ pub(crate) fn copy_by(
         }
         reads -= 1;
     }
-    Outcome::Mistake(Mistake::CannotRead)
+    Outcome::Mistake(Mistake::System(Failed::Read, 0))
 }

@@ -6,12 +6,15 @@ use crate::copy;
 use card_program::outcome;
 use card_program::outcome::Outcome;
 use card_stream::Stream;
+use files::error;
 use files::reading;
 use files::reading::Got;
 use out_file::draft;
 use out_file::draft::Draft;
-use out_file::draft::Kept;
 use out_file::place;
+use out_file::saved::Saved;
+use out_file::step::Step;
+use program::mistake::Failed;
 use program::mistake::Mistake;
 
 // Gives an accepted file's copy its name, and removes any other.
@@ -22,10 +25,9 @@ fn finish(outcome: Outcome, draft: Draft, out: &[u8]) -> Outcome
         draft.discard(out);
         return outcome;
     }
-    match draft.keep(out) {
-        Kept::Kept => outcome,
-        Kept::Unsynced => Outcome::Mistake(Mistake::CannotSync),
-        Kept::Failed => Outcome::Mistake(Mistake::CannotWrite),
+    match draft.keep(out).saved() {
+        Saved::Kept => outcome,
+        Saved::Told(mistake) => Outcome::Mistake(mistake),
     }
 }
 
@@ -35,9 +37,10 @@ fn copy_into(edition: u64, fd: i32, out: &[u8], buffer: &mut [u8], first: usize)
     ensures { λ r. ⌜ Checked edition r ⌝ }
 {
     let draft = draft::begin(out);
-    if draft.fd < 0 {
-        return Outcome::Mistake(Mistake::CannotWrite);
-    }
+    let step = draft.step;
+    let Step::Write = step else {
+        return Outcome::Mistake(Mistake::System(Failed::Write, draft.error));
+    };
     finish(copy::copy_by(edition, fd, draft, buffer, first), draft, out)
 }
 
@@ -46,11 +49,11 @@ fn mask_by(edition: u64, fd: i32, out: &[u8], buffer: &mut [u8]) -> Outcome
     requires { ⌜ 0 < length (now buffer) ⌝ }
     ensures { λ r. ⌜ Checked edition r ⌝ }
 {
-    match reading::read_some(fd, buffer) {
-        Got::Failed => Outcome::Mistake(Mistake::CannotRead),
-        Got::End => Outcome::Answer(Stream::open(edition).end().answer()),
-        Got::Bytes(first) => copy_into(edition, fd, out, buffer, first),
-    }
+    let got = reading::read_some(fd, buffer);
+    let Got::Bytes(first) = got else {
+        return outcome::outcome_at(got, Stream::open(edition));
+    };
+    copy_into(edition, fd, out, buffer, first)
 }
 
 // Masks the file of a name, 65,536 bytes at a time, with the line that the chunk before left unfinished.
@@ -59,7 +62,7 @@ fn mask_file(edition: u64, file: &[u8], out: &[u8]) -> Outcome
 {
     let fd = os::open_read(file);
     if fd < 0 {
-        return Outcome::Mistake(Mistake::CannotOpen);
+        return Outcome::Mistake(Mistake::System(Failed::Open, error::number()));
     }
     let mut buffer = io::large_buffer();
     let outcome = mask_by(edition, fd, out, &mut buffer);
@@ -68,7 +71,7 @@ fn mask_file(edition: u64, file: &[u8], out: &[u8]) -> Outcome
 }
 
 // Writes the masked copy of an accepted file. Of any other there is no copy, and what was at `out` is still there.
-pub fn mask(edition: u64, file: &[u8], out: &[u8]) -> Outcome
+pub(crate) fn mask(edition: u64, file: &[u8], out: &[u8]) -> Outcome
     ensures { λ r. ⌜ Checked edition r ⌝ }
 {
     if place::is_free(out) {

@@ -3,5 +3,6 @@ pub mod Drives
 pub mod Everywhere
 pub mod Runs
 pub mod Slashes
+pub mod Tellings
 pub mod Texts
 pub mod WayOn

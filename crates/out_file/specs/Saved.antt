@@ -1,5 +1,6 @@
 -- What is told of a file that was to take its path, by where its calls ended and the first error.
 use Prim.Native.Nat.{ℕ}
+use Rattle.program.specs.OfTheFiles.{ofTheFiles}
 use Rattle.program.specs.declared.mistake.Mistake.the-variants.{System}
 use Rattle.program.specs.declared.mistake.Failed.the-variants.{Sync, Write as Writing}
 use Rattle.out_file.specs.declared.step.Step.{Step}
@@ -24,3 +25,8 @@ savedOf Remove error = notWritten error
 savedOf Kept error = kept
 savedOf Unsynced error = Told (System Sync error)
 savedOf Gone error = notWritten error
+
+-- whatever is told is a mistake of the files
+abbrev pub tellsOfFiles : Saved → Type 0
+tellsOfFiles kept = Unit {0}
+tellsOfFiles (Told mistake) = ofTheFiles mistake

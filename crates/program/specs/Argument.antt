@@ -4,7 +4,13 @@ use mathlib.Core.List.{List}
 use Rattle.io.specs.Counts.{Counts}
 use Rattle.program.specs.declared.argument.Argument.{Argument}
 use Rattle.program.specs.declared.argument.Argument.the-variants.{Bytes, TooLong}
+use Rattle.program.specs.declared.argument.Three.{Three}
+use Rattle.program.specs.declared.argument.Three.the-variants.{Bytes as bytes, TooLong as tooLong}
 
 abbrev pub givenIn : List ℕ → Argument → Type 0
 givenIn room (Bytes n) = Counts n room
 givenIn room TooLong = Unit {0}
+
+abbrev pub threeIn : List ℕ → List ℕ → List ℕ → Three → Type 0
+threeIn first second third (bytes k m n) = Counts k first × Counts m second × Counts n third
+threeIn first second third tooLong = Unit {0}

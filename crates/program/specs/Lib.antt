@@ -1,3 +1,4 @@
 pub mod Argument
+pub mod OfTheFiles
 pub mod Reason
 pub mod Sentence

@@ -1,13 +1,19 @@
 // The program's arguments.
 ghost use mathlib.Core.Path.{_≡_};
 ghost use lib.ListN.{length};
-ghost use Rattle.program.specs.Argument.{givenIn};
+ghost use Rattle.program.specs.Argument.{givenIn, threeIn};
 
 // What reading an argument answers.
 pub enum Argument {
     // So many bytes, at the start of the room.
     Bytes(usize),
     // It is longer than the room.
+    TooLong,
+}
+
+// The same of three arguments.
+pub enum Three {
+    Bytes(usize, usize, usize),
     TooLong,
 }
 
@@ -27,4 +33,20 @@ pub fn read(number: usize, room: &mut [u8]) -> Argument
         return Argument::TooLong;
     }
     Argument::Bytes(size)
+}
+
+// Reads the arguments EDITION, FILE and OUT, each into its room.
+pub fn read_three(edition: &mut [u8], file: &mut [u8], out: &mut [u8]) -> Three
+    ensures { λ r. ⌜ threeIn (now (edition .exit)) (now (file .exit)) (now (out .exit)) r ⌝ }
+{
+    let Argument::Bytes(first) = read(1, edition) else {
+        return Three::TooLong;
+    };
+    let Argument::Bytes(second) = read(2, file) else {
+        return Three::TooLong;
+    };
+    let Argument::Bytes(third) = read(3, out) else {
+        return Three::TooLong;
+    };
+    Three::Bytes(first, second, third)
 }

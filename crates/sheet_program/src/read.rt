@@ -2,8 +2,10 @@
 ghost use Rattle.sheet_program.specs.SheetRead.{SheetChecked};
 use day_sheet::reader;
 use day_sheet::reader::SheetRead;
+use files::error;
 use files::reading;
 use files::reading::Loaded;
+use program::mistake::Failed;
 use program::mistake::Mistake;
 
 pub enum SheetOutcome {
@@ -20,7 +22,7 @@ fn read_from(fd: i32) -> SheetOutcome
 {
     let mut bytes = [0u8; ROOM];
     match reading::read_all(fd, &mut bytes) {
-        Loaded::Failed => SheetOutcome::Mistake(Mistake::CannotRead),
+        Loaded::Failed(error) => SheetOutcome::Mistake(Mistake::System(Failed::Read, error)),
         Loaded::Bytes(size) => SheetOutcome::Read(reader::read(&bytes[..size])),
         Loaded::TooLong => SheetOutcome::Read(reader::read(&bytes)),
     }
@@ -32,7 +34,7 @@ pub fn read(file: &[u8]) -> SheetOutcome
 {
     let fd = os::open_read(file);
     if fd < 0 {
-        return SheetOutcome::Mistake(Mistake::CannotOpen);
+        return SheetOutcome::Mistake(Mistake::System(Failed::Open, error::number()));
     }
     let outcome = read_from(fd);
     libc::close(fd);

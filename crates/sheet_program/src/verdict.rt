@@ -1,52 +1,99 @@
-// The numbers of a day sheet on standard output, in document 01's words. No contract can say what is written.
+// What is printed of a day sheet, in document 01's words: put into a buffer, and written by one call.
+ghost use mathlib.Core.Path.{_≡_};
+ghost use Rattle.wording.specs.Put.{Puts};
+ghost use Rattle.sheet_program.specs.Verdict.{dateLine, movementLine, numbersText, readText, outcomeText};
 use crate::read::SheetOutcome;
 use card_program::verdict;
 use day_sheet::number::Form;
 use day_sheet::reader::SheetRead;
 use day_sheet::sheet::Sheet;
+use files::error;
+use libc::STDERR_FILENO;
+use libc::STDOUT_FILENO;
 use program::mistake;
-use program::printed;
+use program::mistake::Failed;
+use program::mistake::Mistake;
+use wording::line;
+use wording::put;
 
 // The digits of a date, AAAAMMDD, and of a movement.
 const DATE_DIGITS: usize = 8;
 
 const MOVEMENT_DIGITS: usize = 6;
 
-// A line of a word and a date, with all its digits; the answer is whether it was written, as of each function here.
-fn print_date(date: u64) -> bool {
+// Room for every text.
+const ROOM: usize = 256;
+
+// Each function here puts its text behind the first `at` bytes, and answers how many bytes stand there then. First a date, with all its digits.
+fn put_date(date: u64, out: &mut [u8], at: usize) -> usize
+    ensures { λ r. ⌜ Puts (dateLine date) (now (out .entry)) at r (now (out .exit)) ⌝ }
+{
     let mut digits = [0u8; DATE_DIGITS];
     Form::Digits.put(date, &mut digits);
-    printed::text(b"DATE ") && printed::text(&digits) && printed::text(b"\n")
+    let word = put::text(b"DATE ", out, at);
+    let end = put::text(&digits, out, word);
+    put::text(b"\n", out, end)
 }
 
 // The same of a movement.
-fn print_movement(movement: u64) -> bool {
+fn put_movement(movement: u64, out: &mut [u8], at: usize) -> usize
+    ensures { λ r. ⌜ Puts (movementLine movement) (now (out .entry)) at r (now (out .exit)) ⌝ }
+{
     let mut digits = [0u8; MOVEMENT_DIGITS];
     Form::Digits.put(movement, &mut digits);
-    printed::text(b"MOVEMENT ") && printed::text(&digits) && printed::text(b"\n")
+    let word = put::text(b"MOVEMENT ", out, at);
+    let end = put::text(&digits, out, word);
+    put::text(b"\n", out, end)
 }
 
-fn print_numbers(sheet: Sheet) -> bool {
-    let totals = sheet.totals;
-    printed::line(b"EDITION", sheet.edition)
-        && print_date(sheet.date)
-        && print_movement(sheet.movement)
-        && printed::line(b"BATCHES", sheet.batches)
-        && printed::line(b"SALES", totals.sales)
-        && verdict::print_amounts(totals)
+fn put_numbers(sheet: Sheet, out: &mut [u8], at: usize) -> usize
+    ensures { λ r. ⌜ Puts (numbersText sheet) (now (out .entry)) at r (now (out .exit)) ⌝ }
+{
+    let edition = line::line(b"EDITION", sheet.edition, out, at);
+    let date = put_date(sheet.date, out, edition);
+    let movement = put_movement(sheet.movement, out, date);
+    let batches = line::line(b"BATCHES", sheet.batches, out, movement);
+    verdict::put_totals(sheet.totals, out, batches)
 }
 
-fn print_read(read: SheetRead) -> bool {
+fn put_read(read: SheetRead, out: &mut [u8], at: usize) -> usize
+    ensures { λ r. ⌜ Puts (readText read) (now (out .entry)) at r (now (out .exit)) ⌝ }
+{
     match read {
-        SheetRead::Read(sheet) => print_numbers(sheet),
-        SheetRead::Refused(refusal) => printed::refused(refusal),
+        SheetRead::Read(sheet) => put_numbers(sheet, out, at),
+        SheetRead::Refused(refusal) => line::refused(refusal, out, at),
     }
 }
 
-// Prints the numbers of a day sheet or its refusal, or tells the mistake.
-pub fn print_outcome(outcome: SheetOutcome) {
+// The numbers of a day sheet, its refusal, or the mistake's sentence.
+pub fn put_outcome(outcome: SheetOutcome, out: &mut [u8], at: usize) -> usize
+    ensures { λ r. ⌜ Puts (outcomeText outcome) (now (out .entry)) at r (now (out .exit)) ⌝ }
+{
     match outcome {
-        SheetOutcome::Read(read) => mistake::tell_unless(print_read(read)),
-        SheetOutcome::Mistake(mistake) => mistake::tell(mistake),
+        SheetOutcome::Read(read) => put_read(read, out, at),
+        SheetOutcome::Mistake(mistake) => mistake::put(mistake, out, at),
     }
+}
+
+// Writes an outcome's text, and no other: numbers and refusals to standard output, a mistake to standard error.
+fn write(outcome: SheetOutcome, text: &[u8])
+    requires { ⌜ now text ≡ outcomeText outcome ⌝ }
+{
+    match outcome {
+        SheetOutcome::Read(_) => {
+            if !io::write_all(STDOUT_FILENO, text) {
+                mistake::tell(Mistake::System(Failed::Print, error::number()));
+            }
+        }
+        SheetOutcome::Mistake(_) => {
+            io::write_all(STDERR_FILENO, text);
+        }
+    }
+}
+
+// Prints the numbers of a day sheet or its refusal, or tells the mistake, by one call.
+pub fn print(outcome: SheetOutcome) {
+    let mut room = [0u8; ROOM];
+    let size = put_outcome(outcome, &mut room, 0);
+    write(outcome, &room[..size]);
 }

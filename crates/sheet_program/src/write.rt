@@ -1,6 +1,6 @@
 // The day sheet of a card file, from file to file.
-ghost use Prim.Native.Nat.{ℕ};
 ghost use Rattle.card_program.specs.Checked.{Checked};
+ghost use Rattle.out_file.specs.Saved.{tellsOfFiles};
 use card_program::check;
 use card_program::outcome::Outcome;
 use card_run::answer::Accepted;
@@ -8,54 +8,44 @@ use card_run::answer::CardAnswer;
 use day_sheet::layout;
 use day_sheet::writer;
 use day_sheet::writer::SheetWritten;
+use files::error;
 use out_file::draft;
 use out_file::draft::Draft;
-use out_file::draft::Kept;
 use out_file::place;
+use out_file::saved::Saved;
+use program::mistake::Failed;
 use program::mistake::Mistake;
 
 // Writes a sheet and gives it its name.
-fn fill(draft: Draft, sheet: &[u8], out: &[u8]) -> Kept {
+fn fill(draft: Draft, sheet: &[u8], out: &[u8]) -> Draft {
     if draft.write(sheet) {
         return draft.keep(out);
     }
-    draft.discard(out);
-    Kept::Failed
+    draft.noted().discard(out)
 }
 
 // Writes a file's numbers as a sheet into the file of this name.
-fn save(edition: u64, numbers: Accepted, out: &[u8]) -> Kept {
+fn save(edition: u64, numbers: Accepted, out: &[u8]) -> Saved
+    ensures { λ r. ⌜ tellsOfFiles r ⌝ }
+{
     let mut sheet = [0u8; layout::WIDTH];
     let SheetWritten::Written = writer::write(card_sheet::sheet_from(edition, numbers), &mut sheet)
     else {
-        return Kept::Failed;
+        return Saved::Told(Mistake::System(Failed::Write, 0));
     };
-    let draft = draft::begin(out);
-    if draft.fd < 0 {
-        return Kept::Failed;
-    }
-    fill(draft, &sheet, out)
-}
-
-// What comes of an answer whose sheet was to be kept.
-fn outcome_of(answer: CardAnswer, kept: Kept) -> Outcome
-    ensures { λ r. ⌜ ((edition : ℕ) → Checked edition (Outcome.Answer answer) → Checked edition r) ⌝ }
-{
-    match kept {
-        Kept::Kept => Outcome::Answer(answer),
-        Kept::Unsynced => Outcome::Mistake(Mistake::CannotSync),
-        Kept::Failed => Outcome::Mistake(Mistake::CannotWrite),
-    }
+    fill(draft::begin(out), &sheet, out).saved()
 }
 
 // Saves the sheet of an accepted file; any other answer has none.
 fn save_answer(edition: u64, answer: CardAnswer, out: &[u8]) -> Outcome
     ensures { λ r. ⌜ (Checked edition (Outcome.Answer answer) → Checked edition r) ⌝ }
 {
-    match answer {
-        CardAnswer::GoingOn => Outcome::Answer(answer),
-        CardAnswer::Refused(_) => Outcome::Answer(answer),
-        CardAnswer::Accepted(numbers) => outcome_of(answer, save(edition, numbers, out)),
+    let CardAnswer::Accepted(numbers) = answer else {
+        return Outcome::Answer(answer);
+    };
+    match save(edition, numbers, out) {
+        Saved::Kept => Outcome::Answer(answer),
+        Saved::Told(mistake) => Outcome::Mistake(mistake),
     }
 }
 
@@ -65,7 +55,7 @@ fn check_file(edition: u64, file: &[u8]) -> Outcome
 {
     let fd = os::open_read(file);
     if fd < 0 {
-        return Outcome::Mistake(Mistake::CannotOpen);
+        return Outcome::Mistake(Mistake::System(Failed::Open, error::number()));
     }
     let outcome = check::check(edition, fd);
     libc::close(fd);
@@ -84,7 +74,7 @@ fn write_file(edition: u64, file: &[u8], out: &[u8]) -> Outcome
 }
 
 // Writes the day sheet of an accepted file. Of any other there is no sheet, and what was at `out` is still there.
-pub fn write(edition: u64, file: &[u8], out: &[u8]) -> Outcome
+pub(crate) fn write(edition: u64, file: &[u8], out: &[u8]) -> Outcome
     ensures { λ r. ⌜ Checked edition r ⌝ }
 {
     if place::is_free(out) {
