@@ -5,6 +5,7 @@ use crate::outcome::PayrollOutcome;
 use files::reading;
 use files::reading::Got;
 use payroll_stream::Stream;
+use program::mistake::Failed;
 use program::mistake::Mistake;
 
 // Reads until the end, an error, or a refusal, which no further byte can change. A file of more reads than are counted counts as unreadable.
@@ -14,17 +15,17 @@ fn check_by(fd: i32, buffer: &mut [u8]) -> PayrollOutcome
     let mut stream = Stream::open();
     let mut reads = reading::MOST_READS;
     while reads > 0 {
-        match reading::read_some(fd, buffer) {
-            Got::Failed => return PayrollOutcome::Mistake(Mistake::CannotRead),
-            Got::End => return outcome::outcome_of(stream.end().answer()),
-            Got::Bytes(size) => stream = stream.take(&buffer[..size]),
-        }
+        let got = reading::read_some(fd, buffer);
+        let Got::Bytes(size) = got else {
+            return outcome::outcome_at(got, stream);
+        };
+        stream = stream.take(&buffer[..size]);
         if outcome::is_decided(stream.answer()) {
-            return outcome::outcome_of(stream.end().answer());
+            return outcome::outcome_at(got, stream);
         }
         reads -= 1;
     }
-    PayrollOutcome::Mistake(Mistake::CannotRead)
+    PayrollOutcome::Mistake(Mistake::System(Failed::Read, 0))
 }
 
 // Checks the payroll file that a descriptor reads, 65,536 bytes at a time.

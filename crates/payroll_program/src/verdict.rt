@@ -1,30 +1,71 @@
-// The verdict of a payroll file on standard output, as document 01 prints it. No contract can say what is written.
+// What is printed of a payroll file, as document 01 prints it: put into a buffer, and written by one call.
+ghost use mathlib.Core.Path.{_≡_};
+ghost use Rattle.wording.specs.Put.{Puts};
+ghost use Rattle.payroll_program.specs.Verdict.{acceptedText, verdictText, outcomeText};
 use crate::outcome::PayrollOutcome;
+use files::error;
+use libc::STDERR_FILENO;
+use libc::STDOUT_FILENO;
 use payroll_file::answer::Accepted;
 use payroll_file::answer::PayrollAnswer;
 use program::mistake;
-use program::printed;
+use program::mistake::Failed;
+use program::mistake::Mistake;
+use wording::line;
+use wording::put;
 
-// The answer is whether all lines were written.
-fn print_accepted(accepted: Accepted) -> bool {
-    printed::text(b"ACCEPTED\n")
-        && printed::line(b"RECORDS", accepted.records)
-        && printed::line(b"BATCHES", accepted.batches)
-        && printed::line(b"PAYMENTS", accepted.payments)
-        && printed::line(b"AMOUNT", accepted.amount)
+// Room for every text.
+const ROOM: usize = 256;
+
+// Each function here puts its text behind the first `at` bytes, and answers how many bytes stand there then. First the lines of an accepted file.
+fn put_accepted(accepted: Accepted, out: &mut [u8], at: usize) -> usize
+    ensures { λ r. ⌜ Puts (acceptedText accepted) (now (out .entry)) at r (now (out .exit)) ⌝ }
+{
+    let word = put::text(b"ACCEPTED\n", out, at);
+    let records = line::line(b"RECORDS", accepted.records, out, word);
+    let batches = line::line(b"BATCHES", accepted.batches, out, records);
+    let payments = line::line(b"PAYMENTS", accepted.payments, out, batches);
+    line::line(b"AMOUNT", accepted.amount, out, payments)
 }
 
-fn print_answer(answer: PayrollAnswer) -> bool {
+fn put_verdict(answer: PayrollAnswer, out: &mut [u8], at: usize) -> usize
+    ensures { λ r. ⌜ Puts (verdictText answer) (now (out .entry)) at r (now (out .exit)) ⌝ }
+{
     match answer {
-        PayrollAnswer::Accepted(accepted) => print_accepted(accepted),
-        PayrollAnswer::Refused(refusal) => printed::refused(refusal),
+        PayrollAnswer::Accepted(accepted) => put_accepted(accepted, out, at),
+        PayrollAnswer::Refused(refusal) => line::refused(refusal, out, at),
     }
 }
 
-// Prints the verdict, or tells the mistake.
-pub fn print_outcome(outcome: PayrollOutcome) {
+// The verdict, or the mistake's sentence.
+pub fn put_outcome(outcome: PayrollOutcome, out: &mut [u8], at: usize) -> usize
+    ensures { λ r. ⌜ Puts (outcomeText outcome) (now (out .entry)) at r (now (out .exit)) ⌝ }
+{
     match outcome {
-        PayrollOutcome::Answer(answer) => mistake::tell_unless(print_answer(answer)),
-        PayrollOutcome::Mistake(mistake) => mistake::tell(mistake),
+        PayrollOutcome::Answer(answer) => put_verdict(answer, out, at),
+        PayrollOutcome::Mistake(mistake) => mistake::put(mistake, out, at),
     }
+}
+
+// Writes an outcome's text, and no other: a verdict to standard output, a mistake to standard error.
+fn write(outcome: PayrollOutcome, text: &[u8])
+    requires { ⌜ now text ≡ outcomeText outcome ⌝ }
+{
+    match outcome {
+        PayrollOutcome::Answer(_) => {
+            if !io::write_all(STDOUT_FILENO, text) {
+                mistake::tell(Mistake::System(Failed::Print, error::number()));
+            }
+        }
+        PayrollOutcome::Mistake(_) => {
+            io::write_all(STDERR_FILENO, text);
+        }
+    }
+}
+
+// Prints the verdict, or tells the mistake, by one call.
+pub fn print(outcome: PayrollOutcome) {
+    let mut room = [0u8; ROOM];
+    let size = put_outcome(outcome, &mut room, 0);
+    write(outcome, &room[..size]);
 }

@@ -1,13 +1,14 @@
 -- `payroll_program::check::check_by` meets its contract. The invariant: the buffer keeps its length, and the stream has taken some chunks. The measure is
 -- the count of reads.
-use mathlib.Core.Path.{_≡_}
+use mathlib.Core.Path.{_≡_, refl}
 use native.Mathlib.Omega.{arith}
 use lib.ListN.{length}
 use borrow.Author.Needs.{needs}
+use Rattle.program.specs.declared.mistake.Failed.the-variants.{Read}
 use Rattle.program.proofs.Taken.{none-taken, one-taken}
 use Rattle.files.proofs.Parts.{front-length}
 use Rattle.files.proofs.Answers.{got-within}
-use Rattle.payroll_program.proofs.Ended.{PayrollTaken, ended}
+use Rattle.payroll_program.proofs.Ended.{PayrollTaken, checked}
 use Rattle.payroll_program.proofs.check.check_by.Statement.{statement}
 use Rattle.payroll_program.proofs.check.check_by.Tie as tie
 
@@ -20,29 +21,16 @@ abbrev μ-loop : tie.MeasureT-loop
 loop-holds : tie.Need-loop-holds Inv-loop μ-loop
 loop-holds c = (search needs, none-taken _ _ (c .«open» .ensures))
 
--- at the end of the file
-returns-2 : tie.Need-returns-2 Inv-loop μ-loop
-returns-2 c = ended (c .before .before .before .before .before .before .before .before .before .before .loop .inv .1) (c .before .before .end .ensures) (c .before .answer .ensures) (c .outcome-of .ensures)
+returns : tie.Need-returns Inv-loop μ-loop
+returns c = checked _ (c .before .before .before .before .before .before .before .loop .inv .1) (c .outcome-at .ensures)
 
 -- what was read lies within the buffer
 slice-reshare-prefix-take : tie.Need-slice-reshare-prefix-take Inv-loop μ-loop
 slice-reshare-prefix-take c =
-    omega (
-      arith,
-      got-within (length (c .before .before .before .before .before .before .before .before .loop .buffer)) _ _
-          (c .before .before .before .before .before .read-some .ensures)
-          (c .before .size .given .1),
-    )
+    omega (arith, got-within (length (c .before .before .before .before .before .before .before .before .loop .buffer)) _ _ (c .before .before .before .before .before .read-some .ensures) (c .before .got .given .1))
 
-same-length-3 : tie.Need-same-length-3 Inv-loop μ-loop
-same-length-3 c =
-    let same = c .before .before .before .before .before .before .before .before .before .before .before .before .before .before .before .before .loop .inv .0 in
-    search needs
-
--- at a refusal
-returns-3 : tie.Need-returns-3 Inv-loop μ-loop
-returns-3 c =
-    ended (one-taken _ _ _ (c .before .before .before .before .before .before .before .before .before .before .before .before .before .before .before .before .loop .inv .1) (c .before .before .before .before .before .before .take .ensures)) (c .before .before .end2 .ensures) (c .before .answer3 .ensures) (c .outcome-of2 .ensures)
+returns-2 : tie.Need-returns-2 Inv-loop μ-loop
+returns-2 c = checked _ (one-taken _ _ _ (c .before .before .before .before .before .before .before .before .before .before .before .before .before .before .loop .inv .1) (c .before .before .before .before .take .ensures)) (c .outcome-at2 .ensures)
 
 loop-again : tie.Need-loop-again Inv-loop μ-loop
 loop-again c =
@@ -60,27 +48,19 @@ check-by-spec =
     loop-holds
     (λ c κs. tt)
     (λ c. search needs)
-    (λ c. search needs)
-    (λ c. tt)
-    (λ c. search needs)
-    (λ c κs. tt)
-    (λ c κs. tt)
     (λ c κs. tt)
     (λ c. search needs)
-    returns-2
-    (λ c. search needs)
+    returns
     slice-reshare-prefix-take
     (λ c. front-length _ _ (slice-reshare-prefix-take (c .before)))
     (λ c κs. tt)
     (λ c κs. tt)
     (λ c κs. tt)
     (λ c κs. tt)
-    (λ c κs. tt)
-    (λ c κs. tt)
-    same-length-3
-    returns-3
+    (λ c. search needs)
+    returns-2
     (λ c. search needs)
     (λ c. search needs)
     loop-again
     (λ c. search needs)
-    (λ c. tt))
+    (λ c. (Read, 0, refl)))

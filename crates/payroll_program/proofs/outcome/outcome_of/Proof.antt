@@ -1,7 +1,7 @@
 -- `payroll_program::outcome::outcome_of` meets its contract: each arm's equation picks the case of `outcomeOf`.
 use mathlib.Core.Path.{sym, ap}
-use borrow.Author.Needs.{needs}
 use Rattle.payroll_program.specs.Outcome.{outcomeOf}
+use borrow.Author.Needs.{needs}
 use Rattle.payroll_program.proofs.outcome.outcome_of.Statement.{statement}
 use Rattle.payroll_program.proofs.outcome.outcome_of.Tie as tie
 
@@ -11,5 +11,5 @@ outcome-of-spec =
     (tie.spec
     (λ c. search needs)
     (λ c. search needs)
-    (λ c. ap outcomeOf (sym (c .before .progress .given .1)))
-    (λ c. ap outcomeOf (sym (c .enum-told .given .1))))
+    (λ c. ap outcomeOf (sym (c .enum-told .given .1)))
+    (λ c. ap outcomeOf (sym (c .before .progress .given .1))))
