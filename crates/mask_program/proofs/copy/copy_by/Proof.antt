@@ -6,7 +6,7 @@ use native.Mathlib.Omega.{arith}
 use lib.ListN.{length}
 use borrow.Author.Needs.{needs}
 use Rattle.program.proofs.Taken.{none-taken, one-taken}
-use Rattle.card_program.proofs.Ended.{CardTaken, ended}
+use Rattle.card_program.proofs.Ended.{CardTaken, checked}
 use Rattle.mask_program.specs.Masking.{nextWithin}
 use Rattle.mask_program.proofs.copy.copy_by.Statement.{statement}
 use Rattle.mask_program.proofs.copy.copy_by.Tie as tie
@@ -23,12 +23,12 @@ loop-holds c = (search needs, search needs, search needs, none-taken _ _ (c .«o
 
 same-length : tie.Need-same-length Inv-loop μ-loop
 same-length c =
-    let same = c .before .before .before .before .before .before .before .before .before .loop .inv .2 in
+    let same = c .before .before .before .before .before .before .before .before .loop .inv .2 in
     search needs
 
 -- at a refusal
 returns : tie.Need-returns Inv-loop μ-loop
-returns c = ended _ (one-taken _ _ _ (c .before .before .before .before .before .before .before .before .before .loop .inv .3) (c .before .before .before .before .before .take .ensures)) (c .before .end .ensures) (c .answer2 .ensures)
+returns c = checked _ _ (one-taken _ _ _ (c .before .before .before .before .before .before .before .before .loop .inv .3) (c .before .before .before .before .take .ensures)) (c .outcome-at .ensures)
 
 next-chunk-requires : tie.Need-next-chunk-requires Inv-loop μ-loop
 next-chunk-requires c κs =
@@ -45,9 +45,9 @@ same-length-3 c =
     let same = c .before .before .before .before .before .before .before .before .before .before .before .before .before .before .before .loop .inv .2 in
     search needs
 
--- at the end of the file
+-- at a read that moved no byte
 returns-3 : tie.Need-returns-3 Inv-loop μ-loop
-returns-3 c = ended _ (one-taken _ _ _ (c .before .before .before .before .before .before .before .before .before .before .before .before .before .before .before .loop .inv .3) (c .before .before .before .before .before .before .before .before .before .before .before .take .ensures)) (c .before .end2 .ensures) (c .answer3 .ensures)
+returns-3 c = checked _ _ (one-taken _ _ _ (c .before .before .before .before .before .before .before .before .before .before .before .before .before .before .before .loop .inv .3) (c .before .before .before .before .before .before .before .before .before .before .before .take .ensures)) (c .outcome-at2 .ensures)
 
 loop-again : tie.Need-loop-again Inv-loop μ-loop
 loop-again c =
@@ -71,7 +71,6 @@ copy-by-spec =
     (λ c κs. tt)
     (λ c κs. tt)
     (λ c κs. tt)
-    (λ c κs. tt)
     same-length
     returns
     next-chunk-requires
@@ -79,7 +78,6 @@ copy-by-spec =
     same-length-2
     (λ c. tt)
     (λ c. search needs)
-    (λ c κs. tt)
     (λ c κs. tt)
     same-length-3
     returns-3

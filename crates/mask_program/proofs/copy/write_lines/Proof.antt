@@ -56,8 +56,9 @@ write-lines-spec =
     (λ c. search needs)
     part-write-finished-end
     write-finished-requires
+    (λ c κs. tt)
     (λ c. search needs)
-    (λ c. search needs)
+    (λ c. tt)
     move-to-front-requires
     sub-tail-size
     (λ c κs. search needs)

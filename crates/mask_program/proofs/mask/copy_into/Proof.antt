@@ -4,9 +4,16 @@ use Rattle.mask_program.proofs.mask.copy_into.Statement.{statement}
 use Rattle.mask_program.proofs.mask.copy_into.Tie as tie
 
 returns-2 : tie.Need-returns-2
-returns-2 c = c .finish .ensures (c .before .before .before .before .before .before .before .before .before .before .before .args .edition) (c .before .before .before .copy-by .ensures)
+returns-2 c = c .finish .ensures (c .before .before .before .before .before .before .before .before .before .before .args .edition) (c .before .before .before .copy-by .ensures)
 
 pub copy-into-spec : {M : Type 1} → statement M
 copy-into-spec =
     tie.close
-    (tie.spec (λ c κs. tt) (λ c. tt) (λ c κs. search needs) (λ c κs. tt) (λ c. search needs) returns-2)
+    (tie.spec
+    (λ c κs. tt)
+    (λ c. search needs)
+    (λ c. tt)
+    (λ c κs. search needs)
+    (λ c κs. tt)
+    (λ c. search needs)
+    returns-2)
