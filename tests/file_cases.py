@@ -1,14 +1,15 @@
 #!/usr/bin/env python3
-"""The cases of the file-to-file work, written by hand from document 01 and request Q-7 of document 02.
+"""The cases of the programs' work, written by hand from document 01 and request Q-7 of document 02.
 
     tests/file_cases.py
 
 It writes crates/file_cases/data/, with the cases as steps in own.cases, and crates/file_cases/stdout. A step is its length (4 bytes), a letter that says
-what is to be done (1), the edition (1), and three texts, each behind its length (4): what is printed first, FILE and OUT. The lines are written here by
-hand: nothing in this script computes an answer, and no program under test was asked for one; only the hash that stands for the bytes of a long copy is
-computed, from the copy that is made here.
+what is to be done (1), and four texts, each behind its length (4): what is printed first, EDITION, FILE and OUT. The lines are written here by hand:
+nothing in this script computes an answer, and no program under test was asked for one; only the hash that stands for the bytes of a long copy is computed,
+from the copy that is made here.
 
-A case is a line of what was asked and its outcome, and then what stands at OUT. A last line `something else is left` would tell of any other file.
+A case is a line of what was asked, the text that the program says, and then what stands at OUT. A last line `something else is left` would tell of any
+other file.
 """
 from made import SALE, card_file, payroll_file
 from samples import FILES
@@ -30,6 +31,8 @@ DATA = {
     "short.sheet": FILES["day.sheet"][:-1],
     "longer.sheet": FILES["day.sheet"] + b"\0",
     "empty": b"",
+    "no-line-end.card": FILES["day.card"][:-2],
+    "no-line-end.payroll": FILES["wages.payroll"][:-2],
 }
 
 
@@ -64,15 +67,27 @@ def hash_of(content):
 
 # ---- What is printed -----------------------------------------------------------------------------------------------------------------------
 
-DAY = b"A 20231115 000042 12 3 4 65990 1650 64340 0 0 0 0"
-ADJUSTED = b"A 20231115 000043 11 2 2 25000 625 24375 2 4425 1 4875"
-LONG_DAY = b"A 20231115 000042 704 1 700 7000000 175000 6825000 0 0 0 0"
-REFUSED = b"R 9 3 194"
-BAD_EDITION = b"R 1 0 0"
-NO_FILE = b"FILE cannot be opened"
-NO_READ = b"FILE cannot be read"
-NO_WRITE = b"OUT cannot be written"
-OUT_NO_FILE = b"OUT is no regular file"
+DAY = b"ACCEPTED\nRECORDS 12\nBATCHES 3\nSALES 4\nGROSS 65990\nDISCOUNT 1650\nNET 64340\n"
+ADJUSTED = b"ACCEPTED\nRECORDS 11\nBATCHES 2\nSALES 2\nGROSS 25000\nDISCOUNT 625\nNET 24375\n"
+LONG_DAY = b"ACCEPTED\nRECORDS 704\nBATCHES 1\nSALES 700\nGROSS 7000000\nDISCOUNT 175000\nNET 6825000\n"
+WAGES = b"ACCEPTED\nRECORDS 9\nBATCHES 2\nPAYMENTS 3\nAMOUNT 1301625\n"
+LONG_WAGES = b"ACCEPTED\nRECORDS 604\nBATCHES 1\nPAYMENTS 600\nAMOUNT 74073600\n"
+
+
+def refused(number, record, column):
+    return b"REFUSED %d RECORD %d COLUMN %d\n" % (number, record, column)
+
+
+REFUSED = refused(9, 3, 194)
+BAD_EDITION = refused(1, 0, 0)
+NO_LINE_END = refused(3, 12, 0)
+NO_NUMBER = b"EDITION is no number: give 1 (June 2013) or 2 (November 2023).\n"
+NO_FILE = b"FILE cannot be opened, so check its name and that you may read it: No such file or directory\n"
+LONG_NAME = b"FILE cannot be opened, so check its name and that you may read it: File name too long\n"
+NO_READ = b"the file cannot be read to its end, so give a file that can, and no folder: Is a directory\n"
+NOT_OPEN = b"the file cannot be read to its end, so give a file that can, and no folder: Bad file descriptor\n"
+NO_WRITE = b"OUT cannot be written, so give a file's name in a folder where you may write and there is room: No such file or directory\n"
+OUT_NO_FILE = b"OUT is there and no regular file: give a file's name, or one that is not there.\n"
 
 NO_OUT = b"no OUT\n"
 BEFORE = b"from before\n"
@@ -81,8 +96,8 @@ SHEET_IN_HEX = b"445348" b"0001" b"02" b"3230323331313135" b"303030303432" b"000
 # The same of the day with adjustments, which are not on its sheet: 000043, and 2, 2, 25000 (61A8), 625 (271), 24375 (5F37).
 ADJUSTED_IN_HEX = b"445348" b"0001" b"02" b"3230323331313135" b"303030303433" b"00000002" b"00000002" b"00000000000061a8" b"0000000000000271" b"0000000000005f37\n"
 
-READ_AGAIN = b"A 2 20231115 42 3 4 65990 1650 64340"
-NO_SHEET = b"R 15 0 0"
+READ_AGAIN = b"EDITION 2\nDATE 20231115\nMOVEMENT 000042\nBATCHES 3\nSALES 4\nGROSS 65990\nDISCOUNT 1650\nNET 64340\n"
+NO_SHEET = refused(15, 0, 0)
 
 # ---- The steps -----------------------------------------------------------------------------------------------------------------------------
 
@@ -97,15 +112,15 @@ STEPS = []
 STDOUT = []
 
 
-def step(letter, edition=0, title=b"", file=b"", out=b""):
-    made = letter + number(edition, 1) + b"".join(number(len(text)) + text for text in (title, file, out))
+def step(letter, edition=b"", title=b"", file=b"", out=b""):
+    made = letter + b"".join(number(len(text)) + text for text in (title, edition, file, out))
     STEPS.append(number(len(made)) + made)
 
 
-def ask(letter, title, edition, file, outcome, out=b""):
-    """A question, and the line of its outcome."""
-    step(letter, edition, title + b": ", file, out)
-    STDOUT.append(title + b": " + outcome + b"\n")
+def ask(letter, title, edition, file, text, out=b""):
+    """A question, and the text that the program says."""
+    step(letter, edition, title + b"\n", file, out)
+    STDOUT.append(title + b"\n" + text)
 
 
 def enter(before=b""):
@@ -122,10 +137,10 @@ def leave(shown, content):
     STDOUT.append(content)
 
 
-def ask_alone(letter, title, edition, file, outcome, shown, content, before=b"", out=OUT):
+def ask_alone(letter, title, edition, file, text, shown, content, before=b"", out=OUT):
     """A question in a folder of its own."""
     enter(before)
-    ask(letter, title, edition, file, outcome, out)
+    ask(letter, title, edition, file, text, out)
     leave(shown, content)
 
 
@@ -133,73 +148,88 @@ def ask_with_a_folder(letter, title):
     """Where OUT is a folder."""
     enter()
     step(FOLDER, out=OUT)
-    ask(letter, title, 2, b"day.card", OUT_NO_FILE, OUT)
+    ask(letter, title, b"2", b"day.card", OUT_NO_FILE, OUT)
     leave(LINES, b"OUT is a folder\n")
 
 
 # ---- The cases -----------------------------------------------------------------------------------------------------------------------------
 
-ask(CARD, b"card, a day", 2, b"day.card", DAY)
+ask(CARD, b"card, a day", b"2", b"day.card", DAY)
 # the second sale was captured by 7
-ask(CARD, b"card, a day under edition 1", 1, b"day.card", b"R 8 4 54")
-ask(CARD, b"card, a day under edition 3", 3, b"day.card", BAD_EDITION)
-ask(CARD, b"card, a day with adjustments", 2, b"adjusted.card", ADJUSTED)
-ask(CARD, b"card, refused", 2, b"refused.card", REFUSED)
-ask(CARD, b"card, three chunks", 2, b"long.card", LONG_DAY)
-ask(CARD, b"card, a line of two chunks", 2, b"wide.card", b"R 6 2 0")
-ask(CARD, b"card, empty", 2, b"empty", b"R 12 1 0")
-ask(CARD, b"card, a folder", 2, b".", NO_READ)
-ask(CARD, b"card, a descriptor that is not open", 2, b"none", NO_READ)
+ask(CARD, b"card, a day under edition 1", b"1", b"day.card", refused(8, 4, 54))
+ask(CARD, b"card, a day under edition 3", b"3", b"day.card", BAD_EDITION)
+ask(CARD, b"card, a day with adjustments", b"2", b"adjusted.card", ADJUSTED)
+ask(CARD, b"card, refused", b"2", b"refused.card", REFUSED)
+ask(CARD, b"card, three chunks", b"2", b"long.card", LONG_DAY)
+ask(CARD, b"card, a line of two chunks", b"2", b"wide.card", refused(6, 2, 0))
+ask(CARD, b"card, empty", b"2", b"empty", refused(12, 1, 0))
+ask(CARD, b"card, a folder", b"2", b".", NO_READ)
+ask(CARD, b"card, a descriptor that is not open", b"2", b"none", NOT_OPEN)
+ask(CARD, b"card, no line end", b"2", b"no-line-end.card", NO_LINE_END)
+# the edition is what the bytes of the argument state
+ask(CARD, b"card, an edition with zeros in front", b"0002", b"day.card", DAY)
+ask(CARD, b"card, an edition of 64 bits and 2", b"18446744073709551618", b"day.card", BAD_EDITION)
+for word in b"", b"two", b"+2", b"2 ", b"2.0":
+    ask(CARD, b"card, the edition '" + word + b"'", word, b"day.card", NO_NUMBER)
 
-ask(PAYROLL, b"payroll, wages", 0, b"wages.payroll", b"A 9 2 3 1301625")
-ask(PAYROLL, b"payroll, three chunks", 0, b"long.payroll", b"A 604 1 600 74073600")
-ask(PAYROLL, b"payroll, a card file", 0, b"day.card", b"R 6 1 0")
-ask(PAYROLL, b"payroll, empty", 0, b"empty", b"R 12 1 0")
-ask(PAYROLL, b"payroll, a folder", 0, b".", NO_READ)
+ask(PAYROLL, b"payroll, wages", b"", b"wages.payroll", WAGES)
+ask(PAYROLL, b"payroll, three chunks", b"", b"long.payroll", LONG_WAGES)
+ask(PAYROLL, b"payroll, a card file", b"", b"day.card", refused(6, 1, 0))
+ask(PAYROLL, b"payroll, empty", b"", b"empty", refused(12, 1, 0))
+ask(PAYROLL, b"payroll, a folder", b"", b".", NO_READ)
+ask(PAYROLL, b"payroll, no line end", b"", b"no-line-end.payroll", refused(3, 9, 0))
 
-ask_alone(MASK, b"mask, a day", 2, b"day.card", DAY, LINES, MASKED_DAY)
-ask_alone(MASK, b"mask, a day over an OUT", 2, b"day.card", DAY, LINES, MASKED_DAY, before=BEFORE)
+ask_alone(MASK, b"mask, a day", b"2", b"day.card", DAY, LINES, MASKED_DAY)
+ask_alone(MASK, b"mask, a day over an OUT", b"2", b"day.card", DAY, LINES, MASKED_DAY, before=BEFORE)
 # OUT is FILE itself, which was masked before
 enter()
-ask(MASK, b"mask, a day, first", 2, b"day.card", DAY, OUT)
-ask(MASK, b"mask, OUT is FILE", 2, OUT, DAY, OUT)
+ask(MASK, b"mask, a day, first", b"2", b"day.card", DAY, OUT)
+ask(MASK, b"mask, OUT is FILE", b"2", OUT, DAY, OUT)
 leave(LINES, MASKED_DAY)
-ask_alone(MASK, b"mask, a day with adjustments", 2, b"adjusted.card", ADJUSTED, LINES, MASKED_ADJUSTED)
-ask_alone(MASK, b"mask, three chunks", 2, b"long.card", LONG_DAY, HASH, hash_of(MASKED_LONG))
-ask_alone(MASK, b"mask, refused", 2, b"refused.card", REFUSED, LINES, NO_OUT)
-ask_alone(MASK, b"mask, refused over an OUT", 2, b"refused.card", REFUSED, LINES, BEFORE, before=BEFORE)
+ask_alone(MASK, b"mask, a day with adjustments", b"2", b"adjusted.card", ADJUSTED, LINES, MASKED_ADJUSTED)
+ask_alone(MASK, b"mask, three chunks", b"2", b"long.card", LONG_DAY, HASH, hash_of(MASKED_LONG))
+ask_alone(MASK, b"mask, refused", b"2", b"refused.card", REFUSED, LINES, NO_OUT)
+ask_alone(MASK, b"mask, refused over an OUT", b"2", b"refused.card", REFUSED, LINES, BEFORE, before=BEFORE)
 # its 703 records keep the rules, and A9 does not come
-ask_alone(MASK, b"mask, refused in its last chunk", 2, b"cut.card", b"R 12 704 0", LINES, NO_OUT)
-ask_alone(MASK, b"mask, a line of two chunks", 2, b"wide.card", b"R 6 2 0", LINES, NO_OUT)
-ask_alone(MASK, b"mask, edition 3 over an OUT", 3, b"day.card", BAD_EDITION, LINES, BEFORE, before=BEFORE)
-ask_alone(MASK, b"mask, empty", 2, b"empty", b"R 12 1 0", LINES, NO_OUT)
-ask_alone(MASK, b"mask, no such file", 2, b"none", NO_FILE, LINES, BEFORE, before=BEFORE)
-ask_alone(MASK, b"mask, FILE is a folder", 2, WORK, NO_READ, LINES, BEFORE, before=BEFORE)
-ask_alone(MASK, b"mask, no folder for OUT", 2, b"day.card", NO_WRITE, LINES, NO_OUT, out=b"work/none/out")
+ask_alone(MASK, b"mask, refused in its last chunk", b"2", b"cut.card", refused(12, 704, 0), LINES, NO_OUT)
+ask_alone(MASK, b"mask, a line of two chunks", b"2", b"wide.card", refused(6, 2, 0), LINES, NO_OUT)
+ask_alone(MASK, b"mask, edition 3 over an OUT", b"3", b"day.card", BAD_EDITION, LINES, BEFORE, before=BEFORE)
+ask_alone(MASK, b"mask, empty", b"2", b"empty", refused(12, 1, 0), LINES, NO_OUT)
+ask_alone(MASK, b"mask, no line end", b"2", b"no-line-end.card", NO_LINE_END, LINES, NO_OUT)
+ask_alone(MASK, b"mask, no edition over an OUT", b"two", b"day.card", NO_NUMBER, LINES, BEFORE, before=BEFORE)
+ask_alone(MASK, b"mask, a name of 5,000 bytes", b"2", b"x" * 5000, LONG_NAME, LINES, BEFORE, before=BEFORE)
+ask_alone(MASK, b"mask, a day under edition 1", b"1", b"day.card", refused(8, 4, 54), LINES, NO_OUT)
+ask_alone(MASK, b"mask, no such file", b"2", b"none", NO_FILE, LINES, BEFORE, before=BEFORE)
+ask_alone(MASK, b"mask, FILE is a folder", b"2", WORK, NO_READ, LINES, BEFORE, before=BEFORE)
+ask_alone(MASK, b"mask, no folder for OUT", b"2", b"day.card", NO_WRITE, LINES, NO_OUT, out=b"work/none/out")
 ask_with_a_folder(MASK, b"mask, OUT is a folder")
 
-ask_alone(SHEET, b"sheet, a day", 2, b"day.card", DAY, HEX, SHEET_IN_HEX)
-ask_alone(SHEET, b"sheet, a day over an OUT", 2, b"day.card", DAY, HEX, SHEET_IN_HEX, before=BEFORE)
-ask_alone(SHEET, b"sheet, a day with adjustments", 2, b"adjusted.card", ADJUSTED, HEX, ADJUSTED_IN_HEX)
+ask_alone(SHEET, b"sheet, a day", b"2", b"day.card", DAY, HEX, SHEET_IN_HEX)
+ask_alone(SHEET, b"sheet, a day over an OUT", b"2", b"day.card", DAY, HEX, SHEET_IN_HEX, before=BEFORE)
+ask_alone(SHEET, b"sheet, a day with adjustments", b"2", b"adjusted.card", ADJUSTED, HEX, ADJUSTED_IN_HEX)
 enter()
-ask(SHEET, b"sheet, a day, to be read", 2, b"day.card", DAY, OUT)
-ask(READ, b"sheet read, what was written", 0, OUT, READ_AGAIN)
+ask(SHEET, b"sheet, a day, to be read", b"2", b"day.card", DAY, OUT)
+ask(READ, b"sheet read, what was written", b"", OUT, READ_AGAIN)
 leave(HEX, SHEET_IN_HEX)
-ask_alone(SHEET, b"sheet, refused", 2, b"refused.card", REFUSED, HEX, NO_OUT)
-ask_alone(SHEET, b"sheet, refused over an OUT", 2, b"refused.card", REFUSED, LINES, BEFORE, before=BEFORE)
-ask_alone(SHEET, b"sheet, edition 3 over an OUT", 3, b"day.card", BAD_EDITION, LINES, BEFORE, before=BEFORE)
-ask_alone(SHEET, b"sheet, no such file", 2, b"none", NO_FILE, LINES, BEFORE, before=BEFORE)
-ask_alone(SHEET, b"sheet, FILE is a folder", 2, WORK, NO_READ, LINES, BEFORE, before=BEFORE)
-ask_alone(SHEET, b"sheet, no folder for OUT", 2, b"day.card", NO_WRITE, HEX, NO_OUT, out=b"work/none/out")
+ask_alone(SHEET, b"sheet, refused", b"2", b"refused.card", REFUSED, HEX, NO_OUT)
+ask_alone(SHEET, b"sheet, refused over an OUT", b"2", b"refused.card", REFUSED, LINES, BEFORE, before=BEFORE)
+ask_alone(SHEET, b"sheet, edition 3 over an OUT", b"3", b"day.card", BAD_EDITION, LINES, BEFORE, before=BEFORE)
+ask_alone(SHEET, b"sheet, no line end", b"2", b"no-line-end.card", NO_LINE_END, HEX, NO_OUT)
+ask_alone(SHEET, b"sheet, empty", b"2", b"empty", refused(12, 1, 0), HEX, NO_OUT)
+ask_alone(SHEET, b"sheet, no edition over an OUT", b"two", b"day.card", NO_NUMBER, LINES, BEFORE, before=BEFORE)
+ask_alone(SHEET, b"sheet, a day under edition 1", b"1", b"day.card", refused(8, 4, 54), HEX, NO_OUT)
+ask_alone(SHEET, b"sheet, no such file", b"2", b"none", NO_FILE, LINES, BEFORE, before=BEFORE)
+ask_alone(SHEET, b"sheet, FILE is a folder", b"2", WORK, NO_READ, LINES, BEFORE, before=BEFORE)
+ask_alone(SHEET, b"sheet, no folder for OUT", b"2", b"day.card", NO_WRITE, HEX, NO_OUT, out=b"work/none/out")
 ask_with_a_folder(SHEET, b"sheet, OUT is a folder")
 
-ask(READ, b"sheet read, a day", 0, b"day.sheet", READ_AGAIN)
-ask(READ, b"sheet read, 51 bytes", 0, b"short.sheet", NO_SHEET)
-ask(READ, b"sheet read, 53 bytes", 0, b"longer.sheet", NO_SHEET)
-ask(READ, b"sheet read, empty", 0, b"empty", NO_SHEET)
-ask(READ, b"sheet read, a card file", 0, b"day.card", NO_SHEET)
-ask(READ, b"sheet read, a folder", 0, b".", NO_READ)
-ask(READ, b"sheet read, no such file", 0, b"none", NO_FILE)
+ask(READ, b"sheet read, a day", b"", b"day.sheet", READ_AGAIN)
+ask(READ, b"sheet read, 51 bytes", b"", b"short.sheet", NO_SHEET)
+ask(READ, b"sheet read, 53 bytes", b"", b"longer.sheet", NO_SHEET)
+ask(READ, b"sheet read, empty", b"", b"empty", NO_SHEET)
+ask(READ, b"sheet read, a card file", b"", b"day.card", NO_SHEET)
+ask(READ, b"sheet read, a folder", b"", b".", NO_READ)
+ask(READ, b"sheet read, no such file", b"", b"none", NO_FILE)
 
 
 def main():

@@ -21,3 +21,5 @@ pub mod Cases
 pub mod Definitions
 pub mod Variants
 pub mod Programs
+pub mod Saving
+pub mod Texts

@@ -71,6 +71,14 @@ use Rattle.day_sheet.specs.declared.writer.SheetWritten.{SheetWritten}
 use Rattle.day_sheet.specs.declared.writer.SheetWritten.the-variants.{Written, Refused as unwritten}
 use Rattle.edition.specs.declared.Edition.{Edition}
 use Rattle.edition.specs.declared.Edition.the-variants.{Of as editionIs, NoNumber}
+use Rattle.files.specs.declared.reading.Got.{Got}
+use Rattle.files.specs.declared.reading.Got.the-variants.{Bytes, End, Failed}
+use Rattle.out_file.specs.declared.step.Step.{Step}
+use Rattle.out_file.specs.declared.step.Step.the-variants.{Create, Narrow, Write, Store, Close, Rename, SyncFolder, Abandon, Remove, Kept, Unsynced, Gone}
+use Rattle.out_file.specs.declared.saved.Saved.{Saved}
+use Rattle.out_file.specs.declared.saved.Saved.the-variants.{Kept as kept, Told}
+use Rattle.card_program.specs.declared.outcome.Outcome.{Outcome as CardOutcome}
+use Rattle.card_program.specs.declared.outcome.Outcome.the-variants.{Answer as cardAnswer, Mistake as cardMistake}
 use Rattle.payroll_program.specs.declared.outcome.PayrollOutcome.{PayrollOutcome}
 use Rattle.payroll_program.specs.declared.outcome.PayrollOutcome.the-variants.{Answer, Mistake}
 
@@ -233,3 +241,34 @@ editionRead (editionIs n) = n + 1
 abbrev pub outcomeRead : PayrollOutcome → ℕ
 outcomeRead (Mistake mistake) = 101
 outcomeRead (Answer a) = payrollAnswerRead a
+
+-- the same of a card file
+abbrev pub cardOutcomeRead : CardOutcome → ℕ
+cardOutcomeRead (cardMistake mistake) = 101
+cardOutcomeRead (cardAnswer a) = answerRead a
+
+-- what a read means: 0 for the end, 1 for a failure, two more than its bytes
+abbrev pub gotRead : Got → ℕ
+gotRead End = 0
+gotRead (Failed error) = 1
+gotRead (Bytes n) = n + 2
+
+-- the place of a step among its variants
+abbrev pub stepRead : Step → ℕ
+stepRead Create = 0
+stepRead Narrow = 1
+stepRead Write = 2
+stepRead Store = 3
+stepRead Close = 4
+stepRead Rename = 5
+stepRead SyncFolder = 6
+stepRead Abandon = 7
+stepRead Remove = 8
+stepRead Kept = 9
+stepRead Unsynced = 10
+stepRead Gone = 11
+
+-- whether something is told of a file that was to be kept
+abbrev pub savedRead : Saved → ℕ
+savedRead kept = 0
+savedRead (Told mistake) = 1

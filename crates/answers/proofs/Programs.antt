@@ -1,24 +1,21 @@
 -- The contracts of the programs' libraries rule wrong answers out: an answer is that of some bytes, and the laws of every answer hold of it.
-use Prim.Native.Nat.{ℕ, zero, suc}
+use Prim.Native.Nat.{ℕ}
 use mathlib.Core.Path.{_≡_, refl, sym, _∙_, ap}
 use mathlib.Core.List.{List, []}
 use native.Mathlib.Omega.{arith}
 use lib.IntN.{ℤ}
-use lib.ListN.{take}
 use borrow.Author.Tests.{lt-ltb}
 use base.Fml.{Lft}
 use Rattle.refusal.specs.Rules.{firstBroken}
 use Rattle.text.specs.Alphabet.{allowed, holdsOnly, firstStray}
 use Rattle.text.specs.Number.{valueFrom}
-use Rattle.text.specs.Literal.{ascii, sameBytes, hasByte, oneByteOf}
+use Rattle.text.specs.Literal.{sameBytes, hasByte, oneByteOf}
 use Rattle.calendar.specs.Month.{daysIn}
 use Rattle.calendar.specs.Day.{isDay}
 use Rattle.calendar.specs.Time.{isTime}
 use Rattle.calendar.specs.When.{whenRules}
 use Rattle.pan.specs.CardField.{wellFormed}
 use Rattle.lines.specs.Lines.{inFront, cut, joined, endsInCr, withoutLast}
-use Rattle.edition.specs.Edition.{editionOf}
-use Rattle.edition.specs.declared.Edition.the-variants.{NoNumber}
 use Rattle.card_content.specs.Content.{inSet, contentRules}
 use Rattle.card_content.specs.Field.{tableRules, recordRules}
 use Rattle.card_sale.specs.Cv.{joinedRules}
@@ -50,19 +47,17 @@ use Rattle.day_sheet.specs.Sheet.{totalsAllowed, sheetAllowed}
 use Rattle.day_sheet.specs.Reading.{readNumbers, readOf}
 use Rattle.day_sheet.proofs.RoundTrip.{read-allowed}
 use Rattle.card_kept.proofs.FirstFault.{edition-first}
+use Rattle.wording.specs.Number.{digitsWithin}
+use Rattle.wording.specs.Line.{wordOf, lineOf, refusedLine}
+use Rattle.card_program.specs.Verdict.{totalsText, acceptedText}
+use Rattle.card_program.specs.Outcome.{outcomeAt}
+use Rattle.payroll_program.specs.Outcome.{outcomeAt as payrollOutcomeAt}
 use Rattle.answers.specs.DaySheet.{sheetOf}
 use Rattle.answers.specs.CardRun.{oneSale, accepted}
 use Rattle.answers.specs.Programs.{Programs, madeUp}
 use Rattle.answers.specs.Samples.{cardFile, payrollFile}
 use Rattle.answers.proofs.Told.{equal, told, bit}
-use Rattle.answers.proofs.Observed.{editionRead, outcomeRead}
-
--- no bytes of a text without a digit state an edition
-stated : (n : ℕ) → editionOf (take n (ascii ".")) ≡ NoNumber
-unfolding allowed holdsOnly
-stated zero = refl
-stated (suc zero) = refl
-stated (suc (suc n)) = refl
+use Rattle.answers.proofs.Observed.{cardOutcomeRead, outcomeRead}
 
 -- no file has totals that disagree
 disagreeing : (bytes : List ℕ) → madeUp ≡ checkOf 2 bytes → ⊥
@@ -81,33 +76,41 @@ plain : (bytes : List ℕ) (a : PayrollNumbers) (e : accepted-payroll a ≡ payr
 plain bytes a e = payroll.plain-numbers bytes a (sym e) (payroll.kept-means-kept bytes .0 (record { numbers = a; answer = sym e }))
 
 pub programs : (κ : Lft) (fd : ℤ) → Programs κ fd
-unfolding known firstBroken allowed holdsOnly firstStray valueFrom sameBytes hasByte oneByteOf daysIn isDay isTime whenRules wellFormed inFront cut joined endsInCr withoutLast inSet contentRules tableRules recordRules joinedRules kindNamed rightReading judgedAs readFound answerAt joinedAt rulesOf behind behindOrRefused tookAt closedAt unendedAt linesOf endOf numberRules strayAt segmentNamed payrollKindNamed readAs payrollReadFound foundRules dueRules payrollRunRules behindDetailAs payrollBehind payrollBehindOrRefused payrollTookAt payrollLinesOf endedOf endAt inBase valueIn inPlaces fromPlaces totalsAllowed sheetAllowed readNumbers readOf lateAt
+unfolding known firstBroken allowed holdsOnly firstStray valueFrom sameBytes hasByte oneByteOf daysIn isDay isTime whenRules wellFormed inFront cut joined endsInCr withoutLast inSet contentRules tableRules recordRules joinedRules kindNamed rightReading judgedAs readFound answerAt joinedAt rulesOf behind behindOrRefused tookAt closedAt unendedAt linesOf endOf numberRules strayAt segmentNamed payrollKindNamed readAs payrollReadFound foundRules dueRules payrollRunRules behindDetailAs payrollBehind payrollBehindOrRefused payrollTookAt payrollLinesOf endedOf endAt inBase valueIn inPlaces fromPlaces totalsAllowed sheetAllowed readNumbers readOf lateAt digitsWithin wordOf lineOf refusedLine totalsText acceptedText outcomeAt payrollOutcomeAt
 programs κ fd =
     record {
-      read-some-room = ((omega arith, omega arith), λ p. omega arith);
-      read-some-none = (tt, λ p. omega arith);
-      read-all-room = (omega arith, λ p. omega arith);
-      edition-at-stated = (record { size = 1; within = omega arith; states = refl }, λ p. told editionRead refl (p .states ∙ stated (p .size)));
+      seven-lines = refl;
+      one-line = refl;
+      argument-room = ((omega arith, refl), λ p. omega (arith, p .0));
+      three-room = (((omega arith, refl), (omega arith, refl), (omega arith, refl)), λ p. omega (arith, p .2 .0));
       decided = λ κs a r r' s s' p q. equal p q;
       decided-going-on = (refl, told bit refl);
       decided-refused = (refl, told bit refl);
       accepts = λ κs a r r' s s' p q. equal p q;
       accepts-refused = (refl, told bit refl);
       accepts-mistake = (refl, told bit refl);
+      outcome-at = λ κs a r r' s s' p q. equal p q;
+      outcome-failed = (refl, told cardOutcomeRead refl);
+      outcome-early = (refl, told cardOutcomeRead refl);
       check-totals = ((cardFile, refl), λ p. disagreeing (p .0) (p .1));
       check-edition = (([], refl), λ p. of-edition-3 (p .0) (p .1));
-      mask-totals = ((cardFile, refl), λ p. disagreeing (p .0) (p .1));
+      work-edition = (([], refl), λ p. of-edition-3 (p .0) (p .1));
+      work-word = (refl, told cardOutcomeRead refl);
+      work-number = ((cardFile, refl), λ p. p);
       mask-edition = (([], refl), λ p. of-edition-3 (p .0) (p .1));
-      write-totals = ((cardFile, refl), λ p. disagreeing (p .0) (p .1));
+      mask-word = (refl, told cardOutcomeRead refl);
+      mask-totals = ((cardFile, refl), λ p. disagreeing (p .0) (p .1));
       write-edition = (([], refl), λ p. of-edition-3 (p .0) (p .1));
+      write-word = (refl, told cardOutcomeRead refl);
+      write-totals = ((cardFile, refl), λ p. disagreeing (p .0) (p .1));
       sheet-edition = ((bytesOf (sheetOf 2 9750), refl), λ p. told bit refl (read-allowed (p .0) _ (sym (p .1))));
       sheet-amounts = ((bytesOf (sheetOf 2 9750), refl), λ p. told bit refl (read-allowed (p .0) _ (sym (p .1))));
       decided-payroll = λ κs a r r' s s' p q. equal p q;
       decided-payroll-going-on = (refl, told bit refl);
       decided-payroll-refused = (refl, told bit refl);
-      outcome-of = λ κs a r r' s s' p q. equal p q;
-      outcome-going-on = (refl, told outcomeRead refl);
-      outcome-refused = (refl, told outcomeRead refl);
+      payroll-at = λ κs a r r' s s' p q. equal p q;
+      payroll-failed = (refl, told outcomeRead refl);
+      payroll-early = (refl, told outcomeRead refl);
       check-amount = ((payrollFile, refl), λ p. told bit refl (lt-ltb _ _ (plain (p .0) _ (p .1) .amount-below)));
       check-records = ((payrollFile, refl), λ p. told bit refl (lt-ltb _ _ (plain (p .0) _ (p .1) .records-below)));
     }

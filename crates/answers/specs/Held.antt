@@ -42,9 +42,12 @@ part place s = record { ptr = (0, place); name = 0; now = s }
 abbrev pub lent : List ℕ → RefT (List ℕ)
 lent = part 0
 
--- the lifetimes of one lent slice, and of two
+-- the lifetimes of one lent slice, of two and of three
 abbrev pub one : Lft → Lfts 1
 one κ = (κ, tt)
 
 abbrev pub two : Lft → Lfts 2
 two κ = (κ, (κ, tt))
+
+abbrev pub three : Lft → Lfts 3
+three κ = (κ, (κ, (κ, tt)))

@@ -22,6 +22,8 @@ use Rattle.answers.specs.Cases.{Cases}
 use Rattle.answers.specs.Definitions.{Definitions}
 use Rattle.answers.specs.Variants.{Variants}
 use Rattle.answers.specs.Programs.{Programs}
+use Rattle.answers.specs.Saving.{Saving}
+use Rattle.answers.specs.Texts.{Texts}
 use Rattle.demands.specs.Demands.{Demands}
 
 pub record HeldToAccount : Type 0 where
@@ -46,3 +48,5 @@ pub record HeldToAccount : Type 0 where
   pub definitions : Definitions
   pub variants : (d : Demands) → Variants d
   pub programs : (κ : Lft) (fd : ℤ) → Programs κ fd
+  pub saving : (κ : Lft) (fd : ℤ) → Saving κ fd
+  pub texts : (κ : Lft) → Texts κ

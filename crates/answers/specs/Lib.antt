@@ -21,4 +21,6 @@ pub mod Cases
 pub mod Definitions
 pub mod Variants
 pub mod Programs
+pub mod Saving
+pub mod Texts
 pub mod HeldToAccount

@@ -1,37 +1,49 @@
 -- What the contracts of the programs' libraries are held to. Behind a function's name: the wrong programs that are ruled out.
 -- What asks the system has no one answer: its contract says what every answer is, and rules out what is none.
 use Prim.Native.Nat.{ℕ}
+use Prim.Native.String.{String}
+use mathlib.Core.Path.{_≡_}
+use mathlib.Core.List.{List}
 use mathlib.Core.Bool.{true, false}
 use lib.IntN.{ℤ}
 use base.Fml.{Lft}
+use denote.Ref.{RefT}
 use Rattle.text.specs.Literal.{ascii}
-use Rattle.refusal.specs.declared.Cause.the-variants.{EditionUnknown, SequenceWrong, WrongWidth}
-use Rattle.edition.specs.declared.Edition.the-variants.{Of}
+use Rattle.refusal.specs.declared.Cause.the-variants.{EditionUnknown, SequenceWrong, WrongWidth, EndsTooEarly}
 use Rattle.card_run.specs.declared.answer.CardAnswer.{CardAnswer}
 use Rattle.card_run.specs.declared.answer.CardAnswer.the-variants.{GoingOn, Refused}
 use Rattle.payroll_file.specs.declared.answer.PayrollAnswer.{PayrollAnswer}
 use Rattle.payroll_file.specs.declared.answer.PayrollAnswer.the-variants.{Accepted as accepted-payroll, Refused as refused-payroll}
 use Rattle.payroll_stream.specs.declared.Progress.the-variants.{GoingOn as goingOn, Answered}
 use Rattle.day_sheet.specs.declared.reader.SheetRead.the-variants.{Read}
-use Rattle.files.specs.declared.reading.Got.the-variants.{Bytes, End}
-use Rattle.files.specs.declared.reading.Loaded.the-variants.{Bytes as loaded}
-use Rattle.program.specs.declared.mistake.Mistake.the-variants.{CannotRead}
+use Rattle.demands.specs.ExampleFile.{fileOf}
+use Rattle.card_file.specs.CardFile.{checkOf}
+use Rattle.card_stream.specs.Stream.{openOf}
+use Rattle.payroll_stream.specs.Stream.{openOf as openPayroll}
+use Rattle.card_program.specs.Verdict.{verdictText}
+use Rattle.files.specs.declared.reading.Got.the-variants.{Bytes, Failed}
+use Rattle.program.specs.declared.argument.Argument.the-variants.{Bytes as given}
+use Rattle.program.specs.declared.argument.Three.the-variants.{Bytes as three-given}
+use Rattle.program.specs.declared.mistake.Mistake.the-variants.{EditionNoNumber, System}
+use Rattle.program.specs.declared.mistake.Failed.the-variants.{Read as Reading}
 use Rattle.card_program.specs.declared.outcome.Outcome.the-variants.{Answer, Mistake}
 use Rattle.payroll_program.specs.declared.outcome.PayrollOutcome.the-variants.{Answer as answer-payroll, Mistake as mistake-payroll}
 use Rattle.sheet_program.specs.declared.read.SheetOutcome.the-variants.{Read as read-sheet}
-use Rattle.files.proofs.reading.read_some.Reads as ReadSome
-use Rattle.files.proofs.reading.read_all.Reads as ReadAll
-use Rattle.program.proofs.argument.edition_at.Reads as EditionAt
+use Rattle.program.proofs.argument.read.Reads as ReadArgument
+use Rattle.program.proofs.argument.read_three.Reads as ReadThree
 use Rattle.card_program.proofs.outcome.is_decided.Reads as IsDecided
 use Rattle.card_program.proofs.outcome.is_accepted.Reads as IsAccepted
+use Rattle.card_program.proofs.outcome.outcome_at.Reads as OutcomeAt
 use Rattle.card_program.proofs.check.check.Reads as Check
-use Rattle.mask_program.proofs.mask.mask.Reads as Mask
-use Rattle.sheet_program.proofs.write.write.Reads as Write
+use Rattle.card_program.proofs.work.work.Reads as Work
+use Rattle.mask_program.proofs.work.work.Reads as Mask
+use Rattle.sheet_program.proofs.work.work.Reads as Write
 use Rattle.sheet_program.proofs.read.read.Reads as ReadSheet
 use Rattle.payroll_program.proofs.outcome.is_decided.Reads as IsDecidedPayroll
-use Rattle.payroll_program.proofs.outcome.outcome_of.Reads as OutcomeOf
+use Rattle.payroll_program.proofs.outcome.outcome_at.Reads as PayrollOutcomeAt
 use Rattle.payroll_program.proofs.check.check.Reads as CheckPayroll
-use Rattle.answers.specs.Held.{OneAnswer, Tells, TellsOutcome, lent, one, two}
+use Rattle.answers.specs.Held.{OneAnswer, Tells, lent, one, two, three}
+use Rattle.answers.specs.Samples.{at, sale, cardFile}
 use Rattle.answers.specs.Totals.{amounts, totalsOf}
 use Rattle.answers.specs.CardRun.{refusal, oneSale, accepted}
 use Rattle.answers.specs.DaySheet.{sheetOf}
@@ -47,16 +59,18 @@ unknownEdition = Refused (refusal EditionUnknown 0 0)
 abbrev paid : ℕ → ℕ → PayrollAnswer
 paid records amount = accepted-payroll (record { records = records; batches = 1; payments = 1; amount = amount })
 
+-- the arguments of `mask` and `sheet`: an edition, and two names
+abbrev arguments : String → RefT (List ℕ) × (RefT (List ℕ) × (RefT (List ℕ) × Unit {0}))
+arguments edition = (lent (ascii edition), (lent (ascii "a"), (lent (ascii "b"), tt)))
+
 pub record Programs (κ : Lft) (fd : ℤ) : Type 0 where
-  -- `read_some`: more bytes than there is room for; no byte, which is the end
-  pub read-some-room : Tells (ReadSome.Post (one κ)) (fd, (lent (ascii "...."), tt)) (Bytes 4) (Bytes 5)
-  pub read-some-none : Tells (ReadSome.Post (one κ)) (fd, (lent (ascii "...."), tt)) End (Bytes 0)
-  -- `read_all`: more bytes than there is room for
-  pub read-all-room : Tells (ReadAll.Post (one κ)) (fd, (lent (ascii "...."), tt)) (loaded 4) (loaded 5)
-  -- `edition_at`: an edition that no bytes of the room state
-  pub edition-at-stated : TellsOutcome (EditionAt.Post (one κ)) (1, (lent (ascii "."), tt))
-      (record { answer = Of 2; exit = (1, (lent (ascii "2"), tt)) })
-      (record { answer = Of 2; exit = (1, (lent (ascii "."), tt)) })
+  -- document 01's example of what is printed: "A file of A0, L0, one cash CV with 10000, 250, 9750, L9, A9" prints seven lines; "With CV numbered 000004 it prints one line"
+  pub seven-lines : verdictText (checkOf 2 cardFile) ≡ ascii "ACCEPTED\nRECORDS 5\nBATCHES 1\nSALES 1\nGROSS 10000\nDISCOUNT 250\nNET 9750\n"
+  pub one-line : verdictText (checkOf 2 (fileOf (at 194 "000004" sale))) ≡ ascii "REFUSED 9 RECORD 3 COLUMN 194\n"
+  -- `argument::read` and `read_three`: more bytes than there is room for
+  pub argument-room : Tells (ReadArgument.Post (one κ)) (1, (lent (ascii "2"), tt)) (given 1) (given 2)
+  pub three-room :
+      Tells (ReadThree.Post (three κ)) (lent (ascii "2"), (lent (ascii "ab"), (lent (ascii "c"), tt))) (three-given 1 2 1) (three-given 1 2 2)
   -- `card_program::is_decided`: decided while the file goes on; a refusal that no further byte can change left open
   pub decided : OneAnswer IsDecided.Post
   pub decided-going-on : Tells (IsDecided.Post tt) (GoingOn, tt) false true
@@ -64,14 +78,24 @@ pub record Programs (κ : Lft) (fd : ℤ) : Type 0 where
   -- `is_accepted`: a refused file's OUT kept; a file that could not be read taken for accepted
   pub accepts : OneAnswer IsAccepted.Post
   pub accepts-refused : Tells (IsAccepted.Post tt) (Answer (Refused (refusal SequenceWrong 3 194)), tt) false true
-  pub accepts-mistake : Tells (IsAccepted.Post tt) (Mistake CannotRead, tt) false true
-  -- `card_program::check`, `mask`, `write`: totals that no file has; an edition that the program chose itself
+  pub accepts-mistake : Tells (IsAccepted.Post tt) (Mistake (System Reading 5), tt) false true
+  -- `outcome_at`: a failed read taken for the end; a verdict while the file goes on
+  pub outcome-at : OneAnswer OutcomeAt.Post
+  pub outcome-failed : Tells (OutcomeAt.Post tt) (Failed 5, (openOf 2, tt)) (Mistake (System Reading 5)) (Answer (Refused (refusal EndsTooEarly 1 0)))
+  pub outcome-early : Tells (OutcomeAt.Post tt) (Bytes 9, (openOf 2, tt)) (Mistake (System Reading 0)) (Answer (Refused (refusal EndsTooEarly 1 0)))
+  -- `check`: totals that no file has; an edition that the program chose itself
   pub check-totals : Tells (Check.Post tt) (2, (fd, tt)) (Answer (accepted 5 1 oneSale)) (Answer madeUp)
   pub check-edition : Tells (Check.Post tt) (3, (fd, tt)) (Answer unknownEdition) (Answer (accepted 5 1 oneSale))
-  pub mask-totals : Tells (Mask.Post (two κ)) (2, (lent (ascii "a"), (lent (ascii "b"), tt))) (Answer (accepted 5 1 oneSale)) (Answer madeUp)
-  pub mask-edition : Tells (Mask.Post (two κ)) (3, (lent (ascii "a"), (lent (ascii "b"), tt))) (Answer unknownEdition) (Answer (accepted 5 1 oneSale))
-  pub write-totals : Tells (Write.Post (two κ)) (2, (lent (ascii "a"), (lent (ascii "b"), tt))) (Answer (accepted 5 1 oneSale)) (Answer madeUp)
-  pub write-edition : Tells (Write.Post (two κ)) (3, (lent (ascii "a"), (lent (ascii "b"), tt))) (Answer unknownEdition) (Answer (accepted 5 1 oneSale))
+  -- `work` of `card`, `mask` and `sheet`: always edition 2; a word that is no number taken for one; a number told as none
+  pub work-edition : Tells (Work.Post (one κ)) (lent (ascii "3"), (fd, tt)) (Answer unknownEdition) (Answer (accepted 5 1 oneSale))
+  pub work-word : Tells (Work.Post (one κ)) (lent (ascii "two"), (fd, tt)) (Mistake EditionNoNumber) (Answer (accepted 5 1 oneSale))
+  pub work-number : Tells (Work.Post (one κ)) (lent (ascii "2"), (fd, tt)) (Answer (accepted 5 1 oneSale)) (Mistake EditionNoNumber)
+  pub mask-edition : Tells (Mask.Post (three κ)) (arguments "3") (Answer unknownEdition) (Answer (accepted 5 1 oneSale))
+  pub mask-word : Tells (Mask.Post (three κ)) (arguments "two") (Mistake EditionNoNumber) (Answer (accepted 5 1 oneSale))
+  pub mask-totals : Tells (Mask.Post (three κ)) (arguments "2") (Answer (accepted 5 1 oneSale)) (Answer madeUp)
+  pub write-edition : Tells (Write.Post (three κ)) (arguments "3") (Answer unknownEdition) (Answer (accepted 5 1 oneSale))
+  pub write-word : Tells (Write.Post (three κ)) (arguments "two") (Mistake EditionNoNumber) (Answer (accepted 5 1 oneSale))
+  pub write-totals : Tells (Write.Post (three κ)) (arguments "2") (Answer (accepted 5 1 oneSale)) (Answer madeUp)
   -- `sheet_program::read`: a sheet of edition 3; one whose amounts disagree
   pub sheet-edition : Tells (ReadSheet.Post (one κ)) (lent (ascii "a"), tt) (read-sheet (Read (sheetOf 2 9750))) (read-sheet (Read (sheetOf 3 9750)))
   pub sheet-amounts : Tells (ReadSheet.Post (one κ)) (lent (ascii "a"), tt) (read-sheet (Read (sheetOf 2 9750))) (read-sheet (Read (sheetOf 2 9751)))
@@ -79,11 +103,10 @@ pub record Programs (κ : Lft) (fd : ℤ) : Type 0 where
   pub decided-payroll : OneAnswer IsDecidedPayroll.Post
   pub decided-payroll-going-on : Tells (IsDecidedPayroll.Post tt) (goingOn, tt) false true
   pub decided-payroll-refused : Tells (IsDecidedPayroll.Post tt) (Answered (refused-payroll (refusal WrongWidth 3 0)), tt) true false
-  -- `outcome_of`: a file that goes on accepted; a refusal told as a mistake
-  pub outcome-of : OneAnswer OutcomeOf.Post
-  pub outcome-going-on : Tells (OutcomeOf.Post tt) (goingOn, tt) (mistake-payroll CannotRead) (answer-payroll (paid 5 10000))
-  pub outcome-refused :
-      Tells (OutcomeOf.Post tt) (Answered (refused-payroll (refusal WrongWidth 3 0)), tt) (answer-payroll (refused-payroll (refusal WrongWidth 3 0))) (mistake-payroll CannotRead)
+  -- `payroll_program::outcome_at`: a failed read taken for the end; a verdict while the file goes on
+  pub payroll-at : OneAnswer PayrollOutcomeAt.Post
+  pub payroll-failed : Tells (PayrollOutcomeAt.Post tt) (Failed 5, (openPayroll, tt)) (mistake-payroll (System Reading 5)) (answer-payroll (refused-payroll (refusal EndsTooEarly 1 0)))
+  pub payroll-early : Tells (PayrollOutcomeAt.Post tt) (Bytes 9, (openPayroll, tt)) (mistake-payroll (System Reading 0)) (answer-payroll (refused-payroll (refusal EndsTooEarly 1 0)))
   -- `payroll_program::check`: an amount of 10^19; a million records
   pub check-amount : Tells (CheckPayroll.Post tt) (fd, tt) (answer-payroll (paid 5 10000)) (answer-payroll (paid 5 10000000000000000000))
   pub check-records : Tells (CheckPayroll.Post tt) (fd, tt) (answer-payroll (paid 5 10000)) (answer-payroll (paid 1000000 10000))

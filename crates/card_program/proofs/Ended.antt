@@ -30,6 +30,7 @@ checked edition got {stream} {outcome} w e = subst (Checked edition) (sym e) (at
     by : (decided : Bool) → Checked edition (cond decided (Answer (answerOf (endedOf stream))) (Mistake (System Read 0)))
     by true = ended edition w
     by false = tt
+
     at : (g : Got) → Checked edition (outcomeAt g stream)
     at End = ended edition w
     at (Failed error) = tt

@@ -1,11 +1,9 @@
 -- No text of an outcome has more than 256 bytes.
 use Prim.Native.Nat.{_≤_}
-use mathlib.Core.List.{[], _∷_}
 use native.Mathlib.Omega.{arith}
 use lib.Dec.{lit≤}
 use lib.ListN.{length, length-append}
 use Rattle.text.specs.Literal.{ascii}
-use Rattle.wording.specs.Line.{lineOf, joined}
 use Rattle.wording.proofs.Lengths.{line-short, refused-short}
 use Rattle.program.proofs.Sentences.{sentence-short}
 use Rattle.totals.specs.declared.amounts.Totals.{Totals}

@@ -2,6 +2,7 @@
 -- REFUSED 9 RECORD 3 COLUMN 194".
 use Prim.Native.Nat.{ℕ}
 use mathlib.Core.List.{List, [], _∷_}
+use lib.IntN.{ℤ, pos}
 use Rattle.text.specs.Literal.{ascii}
 use Rattle.wording.specs.Line.{lineOf, refusedLine, joined}
 use Rattle.totals.specs.declared.amounts.Totals.{Totals}
@@ -30,7 +31,12 @@ verdictText GoingOn = []
 verdictText (Accepted numbers) = acceptedText numbers
 verdictText (Refused refusal) = refusedLine refusal
 
--- the verdict on standard output, or the mistake's sentence on standard error
+-- the verdict, or the mistake's sentence
 abbrev pub outcomeText : Outcome → List ℕ
 outcomeText (Answer answer) = verdictText answer
 outcomeText (Mistake mistake) = sentenceOf mistake
+
+-- standard output is 1, standard error 2
+abbrev pub descriptorOf : Outcome → ℤ
+descriptorOf (Answer answer) = pos 1
+descriptorOf (Mistake mistake) = pos 2

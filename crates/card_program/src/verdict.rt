@@ -1,7 +1,7 @@
 // What is printed of a card file, as document 01 prints it: put into a buffer, and written by one call.
 ghost use mathlib.Core.Path.{_≡_};
 ghost use Rattle.wording.specs.Put.{Puts};
-ghost use Rattle.card_program.specs.Verdict.{totalsText, acceptedText, verdictText, outcomeText};
+ghost use Rattle.card_program.specs.Verdict.{totalsText, acceptedText, verdictText, outcomeText, descriptorOf};
 use crate::outcome::Outcome;
 use card_run::answer::Accepted;
 use card_run::answer::CardAnswer;
@@ -58,19 +58,22 @@ pub fn put_outcome(outcome: Outcome, out: &mut [u8], at: usize) -> usize
     }
 }
 
-// Writes an outcome's text, and no other: a verdict to standard output, a mistake to standard error.
+// Where an outcome's text goes: a verdict to standard output, a mistake to standard error.
+pub fn descriptor(outcome: Outcome) -> i32
+    ensures { λ r. ⌜ r ≡ descriptorOf outcome ⌝ }
+{
+    match outcome {
+        Outcome::Answer(_) => STDOUT_FILENO,
+        Outcome::Mistake(_) => STDERR_FILENO,
+    }
+}
+
+// Writes an outcome's text, and no other.
 fn write(outcome: Outcome, text: &[u8])
     requires { ⌜ now text ≡ outcomeText outcome ⌝ }
 {
-    match outcome {
-        Outcome::Answer(_) => {
-            if !io::write_all(STDOUT_FILENO, text) {
-                mistake::tell(Mistake::System(Failed::Print, error::number()));
-            }
-        }
-        Outcome::Mistake(_) => {
-            io::write_all(STDERR_FILENO, text);
-        }
+    if !io::write_all(descriptor(outcome), text) {
+        mistake::tell(Mistake::System(Failed::Print, error::number()));
     }
 }
 

@@ -1,11 +1,10 @@
-// The file-to-file work, case by case: each runs in a folder of its own, and prints a line of what was asked, the outcome, what then stands at OUT, and
-// whether anything else was left in the folder. The cases come as steps.
+// The programs' work, case by case: each runs in a folder of its own, and prints a line of what was asked, the text that the program says, what then stands
+// at OUT, and whether anything else was left in the folder. The cases come as steps.
 use cases::cursor;
 use cases::file;
 
 mod folder;
 mod out;
-mod outcome;
 mod question;
 mod step;
 

@@ -37,7 +37,7 @@ fn print_content(shown: Shown, fd: i32) {
     match reading::read_all(fd, &mut buffer) {
         Loaded::Bytes(size) => print_bytes(shown, &buffer[..size]),
         Loaded::TooLong => print::text(b"OUT is too long\n"),
-        Loaded::Failed => print::text(b"OUT is a folder\n"),
+        Loaded::Failed(_) => print::text(b"OUT is a folder\n"),
     }
 }
 

@@ -1,10 +1,8 @@
-// The questions about files, and the lines of their outcomes.
-use crate::outcome;
-use card_program::check;
+// The questions to the programs' work, and the texts that it says.
+use card_program::outcome::Outcome;
 use cases::print;
-use mask_program::mask;
+use payroll_program::check;
 use sheet_program::read;
-use sheet_program::write;
 
 // The letters of the questions: a card file or a payroll file is checked, a card file masked into OUT, its day sheet written to OUT, and a day sheet read.
 const CARD: u64 = b'C' as u64;
@@ -17,29 +15,53 @@ const SHEET: u64 = b'S' as u64;
 
 const READ: u64 = b'R' as u64;
 
+// Room for every text.
+const ROOM: usize = 256;
+
+fn print_first(text: &[u8], size: usize) {
+    if size <= text.len() {
+        print::text(&text[..size]);
+    }
+}
+
+// The text of an outcome of a card file, whether it goes to standard output or to standard error.
+fn print_outcome(outcome: Outcome) {
+    let mut room = [0u8; ROOM];
+    let size = card_program::verdict::put_outcome(outcome, &mut room, 0);
+    print_first(&room, size);
+}
+
 // Checks a card file from a descriptor.
-fn print_card(edition: u64, file: &[u8]) {
+fn print_card(edition: &[u8], file: &[u8]) {
     let fd = os::open_read(file);
-    outcome::print_card(check::check(edition, fd));
+    print_outcome(card_program::work::work(edition, fd));
     libc::close(fd);
 }
 
 // Checks a payroll file from a descriptor.
 fn print_payroll(file: &[u8]) {
     let fd = os::open_read(file);
-    outcome::print_payroll(payroll_program::check::check(fd));
+    let mut room = [0u8; ROOM];
+    let size = payroll_program::verdict::put_outcome(check::check(fd), &mut room, 0);
+    print_first(&room, size);
     libc::close(fd);
 }
 
-// Asks the question of a letter, and prints its outcome, a line.
-pub fn print(letter: u64, edition: u64, file: &[u8], out: &[u8]) {
+// Reads a day sheet.
+fn print_sheet(file: &[u8]) {
+    let mut room = [0u8; ROOM];
+    let size = sheet_program::verdict::put_outcome(read::read(file), &mut room, 0);
+    print_first(&room, size);
+}
+
+// Asks the question of a letter, and prints what its program says.
+pub fn print(letter: u64, edition: &[u8], file: &[u8], out: &[u8]) {
     match letter {
         CARD => print_card(edition, file),
         PAYROLL => print_payroll(file),
-        MASK => outcome::print_card(mask::mask(edition, file, out)),
-        SHEET => outcome::print_card(write::write(edition, file, out)),
-        READ => outcome::print_sheet(read::read(file)),
-        _ => print::text(b"no such step"),
+        MASK => print_outcome(mask_program::work::work(edition, file, out)),
+        SHEET => print_outcome(sheet_program::work::work(edition, file, out)),
+        READ => print_sheet(file),
+        _ => print::text(b"no such step\n"),
     }
-    print::byte(b'\n');
 }

@@ -1,4 +1,4 @@
-// A step: a letter that says what is to be done, an edition, and three texts, each behind its length: what is printed first, FILE and OUT.
+// A step: a letter that says what is to be done, and four texts, each behind its length: what is printed first, EDITION, FILE and OUT.
 ghost use Prim.Native.Nat.{_+_, _≤_, min};
 ghost use lib.ListN.{length};
 use crate::folder;
@@ -6,7 +6,6 @@ use crate::out;
 use crate::out::Shown;
 use crate::question;
 use cases::cursor;
-use cases::cursor::EDITION_BYTES;
 use cases::cursor::LENGTH_BYTES;
 use cases::print;
 
@@ -28,7 +27,7 @@ const HEX: u64 = b'X' as u64;
 const HASH: u64 = b'H' as u64;
 
 // Does what the letter says.
-fn run(letter: u64, edition: u64, file: &[u8], out: &[u8]) {
+fn run(letter: u64, edition: &[u8], file: &[u8], out: &[u8]) {
     match letter {
         FOLDER => folder::make(out),
         PUT => folder::put(file, out),
@@ -40,20 +39,20 @@ fn run(letter: u64, edition: u64, file: &[u8], out: &[u8]) {
     }
 }
 
-// The same of a step whose FILE has its length at a place.
-fn run_behind(letter: u64, edition: u64, step: &[u8], at: usize) {
-    let file = cursor::number_at(step, at, LENGTH_BYTES);
+// The same of a step whose EDITION has its length at a place.
+fn run_behind(letter: u64, step: &[u8], at: usize) {
+    let edition = cursor::number_at(step, at, LENGTH_BYTES);
+    let file = cursor::number_at(step, edition.behind_part(), LENGTH_BYTES);
     let out = cursor::number_at(step, file.behind_part(), LENGTH_BYTES);
-    run(letter, edition, file.part(step), out.part(step));
+    run(letter, edition.part(step), file.part(step), out.part(step));
 }
 
 // Runs a step.
 fn run_step(step: &[u8]) {
     let letter = cursor::number_at(step, 0, LETTER_BYTES);
-    let edition = cursor::number_at(step, letter.behind, EDITION_BYTES);
-    let title = cursor::number_at(step, edition.behind, LENGTH_BYTES);
+    let title = cursor::number_at(step, letter.behind, LENGTH_BYTES);
     print::text(title.part(step));
-    run_behind(letter.value, edition.value, step, title.behind_part());
+    run_behind(letter.value, step, title.behind_part());
 }
 
 // Runs the step at a place, and answers the place behind it.

@@ -1,7 +1,7 @@
 -- What the answers of reads mean: what is promised of one, and that a failed read is never taken for the end, however many reads there are.
-use Prim.Native.Nat.{ℕ, _≤_, _<_, min}
+use Prim.Native.Nat.{ℕ, _≤_, min}
 use mathlib.Core.Path.{_≡_, refl, sym, _∙_, ap, subst}
-use mathlib.Core.List.{List, [], _∷_, _++_}
+use mathlib.Core.List.{List, [], _∷_}
 use mathlib.Core.Bool.{Bool, true, false, cond, true≢false}
 use native.Mathlib.Omega.{arith}
 use lib.IntN.{ℤ, pos, negsuc}
@@ -78,6 +78,7 @@ zero-ends (pos n) error room e = by (eqb room 0) refl e
         let z : n ≡ 0 = omega (arith, eqb-true (min n room) 0 h, eqb-false room 0 k) in
         ap pos z
     none false h k e = absurd (true≢false (sym (ap isEnd e)))
+
     by : (test : Bool) → eqb room 0 ≡ test → cond test (Failed error) (movedOf (min n room)) ≡ End → pos n ≡ pos 0
     by true k e = absurd (true≢false (sym (ap isEnd e)))
     by false k e = none (eqb (min n room) 0) refl k e
@@ -104,6 +105,7 @@ never-the-end (r ∷ reads) n e = by (meaning r) refl e (never-the-end reads)
           all-moved = ((m, is), w .all-moved);
           no-failure = w .no-failure;
         }
+
     by : (got : Got) → meaning r ≡ got → standsAfter got reads ≡ End → ((m : ℕ) → standsAfter (Bytes m) reads ≡ End → Ended reads) → Ended (r ∷ reads)
     by (Bytes m) is e rest = further m is (rest m e)
     by End is e rest =

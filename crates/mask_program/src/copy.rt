@@ -90,7 +90,10 @@ pub(crate) fn copy_by(
             return outcome::outcome_at(Got::Bytes(end), stream);
         }
         match next_chunk(fd, draft, buffer, end) {
-            Next::Unwritten(error) => return Outcome::Mistake(Mistake::System(Failed::Write, error)),
+            Next::Unwritten(error) => return Outcome::Mistake(Mistake::System(
+                Failed::Write,
+                error,
+            )),
             Next::Over(got) => return outcome::outcome_at(got, stream),
             Next::Bytes(left, behind) => {
                 tail = left;

@@ -2,6 +2,7 @@
 -- of its refusal.
 use Prim.Native.Nat.{ℕ}
 use mathlib.Core.List.{List, [], _∷_}
+use lib.IntN.{ℤ, pos}
 use Rattle.text.specs.Literal.{ascii}
 use Rattle.wording.specs.Line.{lineOf, refusedLine, joined}
 use Rattle.payroll_file.specs.declared.answer.Accepted.{Accepted as Numbers}
@@ -21,7 +22,12 @@ abbrev pub verdictText : PayrollAnswer → List ℕ
 verdictText (Accepted numbers) = acceptedText numbers
 verdictText (Refused refusal) = refusedLine refusal
 
--- the verdict on standard output, or the mistake's sentence on standard error
+-- the verdict, or the mistake's sentence
 abbrev pub outcomeText : PayrollOutcome → List ℕ
 outcomeText (Answer answer) = verdictText answer
 outcomeText (Mistake mistake) = sentenceOf mistake
+
+-- standard output is 1, standard error 2
+abbrev pub descriptorOf : PayrollOutcome → ℤ
+descriptorOf (Answer answer) = pos 1
+descriptorOf (Mistake mistake) = pos 2

@@ -1,7 +1,7 @@
 // What is printed of a payroll file, as document 01 prints it: put into a buffer, and written by one call.
 ghost use mathlib.Core.Path.{_≡_};
 ghost use Rattle.wording.specs.Put.{Puts};
-ghost use Rattle.payroll_program.specs.Verdict.{acceptedText, verdictText, outcomeText};
+ghost use Rattle.payroll_program.specs.Verdict.{acceptedText, verdictText, outcomeText, descriptorOf};
 use crate::outcome::PayrollOutcome;
 use files::error;
 use libc::STDERR_FILENO;
@@ -47,19 +47,22 @@ pub fn put_outcome(outcome: PayrollOutcome, out: &mut [u8], at: usize) -> usize
     }
 }
 
-// Writes an outcome's text, and no other: a verdict to standard output, a mistake to standard error.
+// Where an outcome's text goes: a verdict to standard output, a mistake to standard error.
+pub fn descriptor(outcome: PayrollOutcome) -> i32
+    ensures { λ r. ⌜ r ≡ descriptorOf outcome ⌝ }
+{
+    match outcome {
+        PayrollOutcome::Answer(_) => STDOUT_FILENO,
+        PayrollOutcome::Mistake(_) => STDERR_FILENO,
+    }
+}
+
+// Writes an outcome's text, and no other.
 fn write(outcome: PayrollOutcome, text: &[u8])
     requires { ⌜ now text ≡ outcomeText outcome ⌝ }
 {
-    match outcome {
-        PayrollOutcome::Answer(_) => {
-            if !io::write_all(STDOUT_FILENO, text) {
-                mistake::tell(Mistake::System(Failed::Print, error::number()));
-            }
-        }
-        PayrollOutcome::Mistake(_) => {
-            io::write_all(STDERR_FILENO, text);
-        }
+    if !io::write_all(descriptor(outcome), text) {
+        mistake::tell(Mistake::System(Failed::Print, error::number()));
     }
 }
 

@@ -1,7 +1,5 @@
 -- No sentence has more than 256 bytes.
 use Prim.Native.Nat.{ℕ, _≤_}
-use mathlib.Core.List.{_++_}
-use mathlib.Core.Bool.{true, false}
 use native.Mathlib.Omega.{arith}
 use lib.Dec.{lit≤, eqb}
 use lib.ListN.{length, length-append}

@@ -20,6 +20,8 @@ use Rattle.answers.proofs.Cases.{cases}
 use Rattle.answers.proofs.Definitions.{definitions}
 use Rattle.answers.proofs.Variants.{variants}
 use Rattle.answers.proofs.Programs.{programs}
+use Rattle.answers.proofs.Saving.{saving}
+use Rattle.answers.proofs.Texts.{texts}
 use Rattle.answers.proofs.held_to_account.Statement.{statement}
 use Rattle.answers.proofs.held_to_account.Tie as tie
 
@@ -47,6 +49,8 @@ returns c =
       definitions = definitions;
       variants = variants;
       programs = programs;
+      saving = saving;
+      texts = texts;
     }
 
 pub held-to-account-spec : {M : Type 1} → statement M

@@ -1,6 +1,6 @@
 -- `card_program::outcome::outcome_at` meets its contract: each arm's equation picks the case of `outcomeAt`.
-use mathlib.Core.Path.{_≡_, sym, _∙_, ap}
-use Rattle.card_stream.specs.Stream.{endedOf, answerOf}
+use mathlib.Core.Path.{sym, _∙_, ap}
+use Rattle.card_stream.specs.Stream.{answerOf}
 use Rattle.card_program.specs.declared.outcome.Outcome.the-variants.{Answer}
 use Rattle.card_program.specs.Outcome.{isDecided, outcomeAt}
 use borrow.Author.Needs.{needs}
@@ -10,7 +10,6 @@ use Rattle.card_program.proofs.outcome.outcome_at.Tie as tie
 returns : tie.Need-returns
 unfolding outcomeAt
 returns c =
-    let s = c .before .before .before .before .before .before .before .args in
     let decided = sym (c .before .before .before .is-decided .ensures ∙ ap isDecided (c .before .before .before .before .answer2 .ensures)) ∙ c .before .before .if1 .taken in
     rw (c .before .before .before .before .before .enum-told2 .given .1, decided) (ap Answer (c .answer3 .ensures ∙ ap answerOf (c .before .end2 .ensures)))
 

@@ -32,14 +32,14 @@ unfolding bits
 returns-3 c =
     let s = c .before .before .before .before in
     of-answer s _
-        (none-moved (bits s) (s .before .args .error) _ _ (c .before .before .before .if1 .left) (c .before .before .if2 .left) (c .before .count .ensures .1) (c .if3 .taken))
+    (none-moved (bits s) (s .before .args .error) _ _ (c .before .before .before .if1 .left) (c .before .before .if2 .left) (c .before .count .ensures .1) (c .if3 .taken))
 
 returns-4 : tie.Need-returns-4
 unfolding bits
 returns-4 c =
     let s = c .before .before .before .before in
     of-answer s _
-        (some-moved (bits s) (s .before .args .error) _ _ (c .before .before .before .if1 .left) (c .before .before .if2 .left) (c .before .count .ensures .1) (c .if3 .left))
+    (some-moved (bits s) (s .before .args .error) _ _ (c .before .before .before .if1 .left) (c .before .before .if2 .left) (c .before .count .ensures .1) (c .if3 .left))
 
 pub got-of-spec : {M : Type 1} → statement M
 got-of-spec = tie.close (tie.spec returns returns-2 (λ c κs. tt) returns-3 returns-4)

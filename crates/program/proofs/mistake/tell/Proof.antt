@@ -1,9 +1,5 @@
 -- `program::mistake::tell` meets its contract: there is room for every sentence, so what is said is the mistake's own.
-use Prim.Native.Nat.{_≤_}
-use native.Mathlib.Omega.{arith}
-use lib.ListN.{length}
 use Rattle.wording.proofs.Putting.{whole, counted}
-use Rattle.program.specs.Sentence.{sentenceOf}
 use Rattle.program.proofs.Sentences.{sentence-short}
 use borrow.Author.Needs.{needs}
 use Rattle.program.proofs.mistake.tell.Statement.{statement}
