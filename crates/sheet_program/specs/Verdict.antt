@@ -16,17 +16,11 @@ use Rattle.sheet_program.specs.declared.read.SheetOutcome.the-variants.{
 unfoldable pub digitsLine : List ℕ → ℕ → ℕ → List ℕ
 digitsLine name width n = joined (name ∷ inBase 10 48 width n ∷ ascii "\n" ∷ [])
 
-abbrev pub dateLine : ℕ → List ℕ
-dateLine = digitsLine (ascii "DATE ") 8
-
-abbrev pub movementLine : ℕ → List ℕ
-movementLine = digitsLine (ascii "MOVEMENT ") 6
-
 unfoldable pub numbersText : Sheet → List ℕ
 numbersText s =
     joined
-    (lineOf (ascii "EDITION") (s .edition) ∷ dateLine (s .date) ∷ movementLine (s .movement) ∷ lineOf (ascii "BATCHES") (s .batches) ∷
-    totalsText (s .totals) ∷ [])
+    (lineOf (ascii "EDITION") (s .edition) ∷ digitsLine (ascii "DATE ") 8 (s .date) ∷ digitsLine (ascii "MOVEMENT ") 6 (s .movement) ∷
+    lineOf (ascii "BATCHES") (s .batches) ∷ totalsText (s .totals) ∷ [])
 
 abbrev pub readText : SheetRead → List ℕ
 readText (Read sheet) = numbersText sheet

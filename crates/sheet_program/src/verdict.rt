@@ -1,7 +1,8 @@
 // What is printed of a day sheet, in document 01's words: put into a buffer, and written by one call.
+ghost use Prim.Native.Nat.{_≤_};
 ghost use mathlib.Core.Path.{_≡_};
 ghost use Rattle.wording.specs.Put.{Puts};
-ghost use Rattle.sheet_program.specs.Verdict.{dateLine, movementLine, numbersText, readText, outcomeText};
+ghost use Rattle.sheet_program.specs.Verdict.{digitsLine, numbersText, readText, outcomeText};
 use crate::read::SheetOutcome;
 use card_program::verdict;
 use day_sheet::number::Form;
@@ -24,25 +25,16 @@ const MOVEMENT_DIGITS: usize = 6;
 // Room for every text.
 const ROOM: usize = 256;
 
-// Each function here puts its text behind the first `at` bytes, and answers how many bytes stand there then. First a date, with all its digits.
-fn put_date(date: u64, out: &mut [u8], at: usize) -> usize
-    ensures { λ r. ⌜ Puts (dateLine date) (now (out .entry)) at r (now (out .exit)) ⌝ }
+// Each function here puts its text behind the first `at` bytes, and answers how many bytes stand there then. First a word and so many digits of a
+// number, of which a date has the most.
+fn put_digits(name: &[u8], number: u64, width: usize, out: &mut [u8], at: usize) -> usize
+    requires { ⌜ width ≤ 8 ⌝ }
+    ensures { λ r. ⌜ Puts (digitsLine (now (name .entry)) width number) (now (out .entry)) at r (now (out .exit)) ⌝ }
 {
     let mut digits = [0u8; DATE_DIGITS];
-    Form::Digits.put(date, &mut digits);
-    let word = put::text(b"DATE ", out, at);
-    let end = put::text(&digits, out, word);
-    put::text(b"\n", out, end)
-}
-
-// The same of a movement.
-fn put_movement(movement: u64, out: &mut [u8], at: usize) -> usize
-    ensures { λ r. ⌜ Puts (movementLine movement) (now (out .entry)) at r (now (out .exit)) ⌝ }
-{
-    let mut digits = [0u8; MOVEMENT_DIGITS];
-    Form::Digits.put(movement, &mut digits);
-    let word = put::text(b"MOVEMENT ", out, at);
-    let end = put::text(&digits, out, word);
+    Form::Digits.put(number, &mut digits[..width]);
+    let word = put::text(name, out, at);
+    let end = put::text(&digits[..width], out, word);
     put::text(b"\n", out, end)
 }
 
@@ -50,8 +42,8 @@ fn put_numbers(sheet: Sheet, out: &mut [u8], at: usize) -> usize
     ensures { λ r. ⌜ Puts (numbersText sheet) (now (out .entry)) at r (now (out .exit)) ⌝ }
 {
     let edition = line::line(b"EDITION", sheet.edition, out, at);
-    let date = put_date(sheet.date, out, edition);
-    let movement = put_movement(sheet.movement, out, date);
+    let date = put_digits(b"DATE ", sheet.date, DATE_DIGITS, out, edition);
+    let movement = put_digits(b"MOVEMENT ", sheet.movement, MOVEMENT_DIGITS, out, date);
     let batches = line::line(b"BATCHES", sheet.batches, out, movement);
     verdict::put_totals(sheet.totals, out, batches)
 }

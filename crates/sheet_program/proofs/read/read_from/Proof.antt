@@ -1,5 +1,4 @@
 -- `sheet_program::read::read_from` meets its contract: what was read lies within the buffer, and the answer is that of these bytes.
-use mathlib.Core.Path.{_≡_}
 use Rattle.files.proofs.Parts.{front-length}
 use Rattle.files.proofs.Answers.{loaded-within}
 use borrow.Author.Needs.{needs}

@@ -1,0 +1,28 @@
+-- `sheet::print_sheet` meets its contract: what was read of the argument lies within its room.
+use Rattle.program.proofs.Given.{given}
+use borrow.Author.Needs.{needs}
+use Rattle.sheet.proofs.print_sheet.Statement.{statement}
+use Rattle.sheet.proofs.print_sheet.Tie as tie
+
+array-share-prefix-file : tie.Need-array-share-prefix-file
+array-share-prefix-file c = given _ _ _ (c .before .before .before .before .read .ensures) (c .before .size .given .1) .0
+
+slice-aggregate-read-2 : tie.Need-slice-aggregate-read-2
+slice-aggregate-read-2 c = given _ _ _ (c .before .before .before .before .before .read .ensures) (c .before .before .size .given .1) .1
+
+pub print-sheet-spec : {M : Type 1} → statement M
+print-sheet-spec =
+    tie.close
+    (tie.spec
+    (λ c κs. tt)
+    (λ c. search needs)
+    (λ c κs. tt)
+    (λ c. search needs)
+    (λ c. search needs)
+    (λ c κs. tt)
+    (λ c. tt)
+    array-share-prefix-file
+    slice-aggregate-read-2
+    (λ c κs. tt)
+    (λ c κs. tt)
+    (λ c. tt))
