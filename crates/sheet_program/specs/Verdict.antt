@@ -1,6 +1,7 @@
 -- What is printed of a day sheet: its numbers, each a line; a date and a movement have all their digits.
 use Prim.Native.Nat.{ℕ}
 use mathlib.Core.List.{List, [], _∷_}
+use lib.IntN.{ℤ, pos}
 use Rattle.text.specs.Literal.{ascii}
 use Rattle.wording.specs.Line.{lineOf, refusedLine, joined}
 use Rattle.program.specs.Sentence.{sentenceOf}
@@ -26,7 +27,12 @@ abbrev pub readText : SheetRead → List ℕ
 readText (Read sheet) = numbersText sheet
 readText (Refused refusal) = refusedLine refusal
 
--- the numbers or the refusal on standard output, or the mistake's sentence on standard error
+-- the numbers, the refusal, or the mistake's sentence
 abbrev pub outcomeText : SheetOutcome → List ℕ
 outcomeText (Done read) = readText read
 outcomeText (Mistake mistake) = sentenceOf mistake
+
+-- standard output is 1, standard error 2
+abbrev pub descriptorOf : SheetOutcome → ℤ
+descriptorOf (Done read) = pos 1
+descriptorOf (Mistake mistake) = pos 2

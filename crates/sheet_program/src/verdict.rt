@@ -2,7 +2,7 @@
 ghost use Prim.Native.Nat.{_≤_};
 ghost use mathlib.Core.Path.{_≡_};
 ghost use Rattle.wording.specs.Put.{Puts};
-ghost use Rattle.sheet_program.specs.Verdict.{digitsLine, numbersText, readText, outcomeText};
+ghost use Rattle.sheet_program.specs.Verdict.{digitsLine, numbersText, readText, outcomeText, descriptorOf};
 use crate::read::SheetOutcome;
 use card_program::verdict;
 use day_sheet::number::Form;
@@ -67,19 +67,22 @@ pub fn put_outcome(outcome: SheetOutcome, out: &mut [u8], at: usize) -> usize
     }
 }
 
-// Writes an outcome's text, and no other: numbers and refusals to standard output, a mistake to standard error.
+// Where an outcome's text goes: numbers and refusals to standard output, a mistake to standard error.
+pub fn descriptor(outcome: SheetOutcome) -> i32
+    ensures { λ r. ⌜ r ≡ descriptorOf outcome ⌝ }
+{
+    match outcome {
+        SheetOutcome::Read(_) => STDOUT_FILENO,
+        SheetOutcome::Mistake(_) => STDERR_FILENO,
+    }
+}
+
+// Writes an outcome's text, and no other.
 fn write(outcome: SheetOutcome, text: &[u8])
     requires { ⌜ now text ≡ outcomeText outcome ⌝ }
 {
-    match outcome {
-        SheetOutcome::Read(_) => {
-            if !io::write_all(STDOUT_FILENO, text) {
-                mistake::tell(Mistake::System(Failed::Print, error::number()));
-            }
-        }
-        SheetOutcome::Mistake(_) => {
-            io::write_all(STDERR_FILENO, text);
-        }
+    if !io::write_all(descriptor(outcome), text) {
+        mistake::tell(Mistake::System(Failed::Print, error::number()));
     }
 }
 
