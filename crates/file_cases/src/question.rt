@@ -20,7 +20,7 @@ const ROOM: usize = 256;
 
 fn print_first(text: &[u8], size: usize) {
     if size <= text.len() {
-        print::text(&text[..size]);
+        print::text(&text[0..size]);
     }
 }
 
