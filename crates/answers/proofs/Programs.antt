@@ -28,6 +28,7 @@ use Rattle.card_step.specs.Rules.{joinedAt, rulesOf}
 use Rattle.card_step.specs.Behind.{behind}
 use Rattle.card_step.specs.Step.{behindOrRefused, tookAt}
 use Rattle.card_file.specs.CardFile.{unendedAt, linesOf, endOf, checkOf}
+use Rattle.card_stream.specs.Stream.{withHeld}
 use Rattle.card_kept.proofs.KeptMeansKept.{kept-means-kept, plain-numbers}
 use Rattle.payroll_record.specs.Field.{numberRules}
 use Rattle.payroll_record.specs.Front.{strayAt}
@@ -39,6 +40,7 @@ use Rattle.payroll_step.specs.Step.{behindOrRefused as payrollBehindOrRefused, 
 use Rattle.payroll_file.specs.PayrollFile.{linesOf as payrollLinesOf, endedOf, endAt, checkOf as payrollCheckOf}
 use Rattle.payroll_file.specs.declared.answer.Accepted.{Accepted as PayrollNumbers}
 use Rattle.payroll_file.specs.declared.answer.PayrollAnswer.the-variants.{Accepted as accepted-payroll}
+use Rattle.payroll_stream.specs.Stream.{soFar, answerAt as payrollAnswerAt}
 use Rattle.payroll_kept.specs.Numbers.{Numbers}
 use Rattle.payroll_kept.proofs.KeptMeansKept as payroll
 use Rattle.day_sheet.specs.Number.{inBase, valueIn}
@@ -76,7 +78,7 @@ plain : (bytes : List ℕ) (a : PayrollNumbers) (e : accepted-payroll a ≡ payr
 plain bytes a e = payroll.plain-numbers bytes a (sym e) (payroll.kept-means-kept bytes .0 (record { numbers = a; answer = sym e }))
 
 pub programs : (κ : Lft) (fd : ℤ) → Programs κ fd
-unfolding known firstBroken allowed holdsOnly firstStray valueFrom sameBytes hasByte oneByteOf daysIn isDay isTime whenRules wellFormed inFront cut joined endsInCr withoutLast inSet contentRules tableRules recordRules joinedRules kindNamed rightReading judgedAs readFound answerAt joinedAt rulesOf behind behindOrRefused tookAt closedAt unendedAt linesOf endOf numberRules strayAt segmentNamed payrollKindNamed readAs payrollReadFound foundRules dueRules payrollRunRules behindDetailAs payrollBehind payrollBehindOrRefused payrollTookAt payrollLinesOf endedOf endAt inBase valueIn inPlaces fromPlaces totalsAllowed sheetAllowed readNumbers readOf lateAt digitsWithin wordOf lineOf refusedLine totalsText acceptedText outcomeAt payrollOutcomeAt
+unfolding known firstBroken allowed holdsOnly firstStray valueFrom sameBytes hasByte oneByteOf daysIn isDay isTime whenRules wellFormed inFront cut joined endsInCr withoutLast inSet contentRules tableRules recordRules joinedRules kindNamed rightReading judgedAs readFound answerAt joinedAt rulesOf behind behindOrRefused tookAt closedAt unendedAt linesOf endOf numberRules strayAt segmentNamed payrollKindNamed readAs payrollReadFound foundRules dueRules payrollRunRules behindDetailAs payrollBehind payrollBehindOrRefused payrollTookAt payrollLinesOf endedOf endAt inBase valueIn inPlaces fromPlaces totalsAllowed sheetAllowed readNumbers readOf lateAt digitsWithin wordOf lineOf refusedLine totalsText acceptedText outcomeAt payrollOutcomeAt withHeld soFar payrollAnswerAt
 programs κ fd =
     record {
       seven-lines = refl;
