@@ -71,6 +71,8 @@ use Rattle.day_sheet.specs.declared.writer.SheetWritten.{SheetWritten}
 use Rattle.day_sheet.specs.declared.writer.SheetWritten.the-variants.{Written, Refused as unwritten}
 use Rattle.edition.specs.declared.Edition.{Edition}
 use Rattle.edition.specs.declared.Edition.the-variants.{Of as editionIs, NoNumber}
+use Rattle.program.specs.declared.argument.Argument.{Argument}
+use Rattle.program.specs.declared.argument.Argument.the-variants.{Bytes as given, TooLong as longer}
 use Rattle.files.specs.declared.reading.Got.{Got}
 use Rattle.files.specs.declared.reading.Got.the-variants.{Bytes, End, Failed}
 use Rattle.out_file.specs.declared.step.Step.{Step}
@@ -246,6 +248,11 @@ outcomeRead (Answer a) = payrollAnswerRead a
 abbrev pub cardOutcomeRead : CardOutcome → ℕ
 cardOutcomeRead (cardMistake mistake) = 101
 cardOutcomeRead (cardAnswer a) = answerRead a
+
+-- an argument: 0 where it is too long, one more than its bytes
+abbrev pub argumentRead : Argument → ℕ
+argumentRead longer = 0
+argumentRead (given n) = n + 1
 
 -- what a read means: 0 for the end, 1 for a failure, two more than its bytes
 abbrev pub gotRead : Got → ℕ

@@ -59,7 +59,7 @@ use Rattle.answers.specs.CardRun.{oneSale, accepted}
 use Rattle.answers.specs.Programs.{Programs, madeUp}
 use Rattle.answers.specs.Samples.{cardFile, payrollFile}
 use Rattle.answers.proofs.Told.{equal, told, bit}
-use Rattle.answers.proofs.Observed.{cardOutcomeRead, outcomeRead}
+use Rattle.answers.proofs.Observed.{argumentRead, cardOutcomeRead, outcomeRead}
 
 -- no file has totals that disagree
 disagreeing : (bytes : List ℕ) → madeUp ≡ checkOf 2 bytes → ⊥
@@ -83,6 +83,9 @@ programs κ fd =
     record {
       seven-lines = refl;
       one-line = refl;
+      argument-of = λ κs a r r' s s' p q. equal p q;
+      argument-of-long = (refl, told argumentRead refl);
+      argument-of-whole = (refl, told argumentRead refl);
       argument-room = ((omega arith, refl), λ p. omega (arith, p .0));
       three-room = (((omega arith, refl), (omega arith, refl), (omega arith, refl)), λ p. omega (arith, p .2 .0));
       decided = λ κs a r r' s s' p q. equal p q;

@@ -22,13 +22,14 @@ use Rattle.card_stream.specs.Stream.{openOf}
 use Rattle.payroll_stream.specs.Stream.{openOf as openPayroll}
 use Rattle.card_program.specs.Verdict.{verdictText}
 use Rattle.files.specs.declared.reading.Got.the-variants.{Bytes, Failed}
-use Rattle.program.specs.declared.argument.Argument.the-variants.{Bytes as given}
+use Rattle.program.specs.declared.argument.Argument.the-variants.{Bytes as given, TooLong}
 use Rattle.program.specs.declared.argument.Three.the-variants.{Bytes as three-given}
 use Rattle.program.specs.declared.mistake.Mistake.the-variants.{EditionNoNumber, System}
 use Rattle.program.specs.declared.mistake.Failed.the-variants.{Read as Reading}
 use Rattle.card_program.specs.declared.outcome.Outcome.the-variants.{Answer, Mistake}
 use Rattle.payroll_program.specs.declared.outcome.PayrollOutcome.the-variants.{Answer as answer-payroll, Mistake as mistake-payroll}
 use Rattle.sheet_program.specs.declared.read.SheetOutcome.the-variants.{Read as read-sheet}
+use Rattle.program.proofs.argument.argument_of.Reads as ArgumentOf
 use Rattle.program.proofs.argument.read.Reads as ReadArgument
 use Rattle.program.proofs.argument.read_three.Reads as ReadThree
 use Rattle.card_program.proofs.outcome.is_decided.Reads as IsDecided
@@ -67,6 +68,10 @@ pub record Programs (κ : Lft) (fd : ℤ) : Type 0 where
   -- document 01's example of what is printed: "A file of A0, L0, one cash CV with 10000, 250, 9750, L9, A9" prints seven lines; "With CV numbered 000004 it prints one line"
   pub seven-lines : verdictText (checkOf 2 cardFile) ≡ ascii "ACCEPTED\nRECORDS 5\nBATCHES 1\nSALES 1\nGROSS 10000\nDISCOUNT 250\nNET 9750\n"
   pub one-line : verdictText (checkOf 2 (fileOf (at 194 "000004" sale))) ≡ ascii "REFUSED 9 RECORD 3 COLUMN 194\n"
+  -- `argument_of`: one that is too long taken for an empty one; any argument taken for one that is too long
+  pub argument-of : OneAnswer ArgumentOf.Post
+  pub argument-of-long : Tells (ArgumentOf.Post tt) (0, (36, tt)) TooLong (given 0)
+  pub argument-of-whole : Tells (ArgumentOf.Post tt) (1, (0, tt)) (given 1) TooLong
   -- `argument::read` and `read_three`: more bytes than there is room for
   pub argument-room : Tells (ReadArgument.Post (one κ)) (1, (lent (ascii "2"), tt)) (given 1) (given 2)
   pub three-room :

@@ -1,11 +1,17 @@
 -- What is promised of an argument: the bytes that are counted stand at the start of the room. That they are the argument's is the system call's affair.
 use Prim.Native.Nat.{ℕ}
 use mathlib.Core.List.{List}
+use mathlib.Core.Bool.{cond}
+use lib.Dec.{eqb}
 use Rattle.io.specs.Counts.{Counts}
 use Rattle.program.specs.declared.argument.Argument.{Argument}
 use Rattle.program.specs.declared.argument.Argument.the-variants.{Bytes, TooLong}
 use Rattle.program.specs.declared.argument.Three.{Three}
 use Rattle.program.specs.declared.argument.Three.the-variants.{Bytes as bytes, TooLong as tooLong}
+
+-- one that is longer than its room leaves the error 36, and no argument at all is taken for it
+abbrev pub argumentOf : ℕ → ℕ → Argument
+argumentOf size error = cond (eqb error 36) TooLong (Bytes size)
 
 abbrev pub givenIn : List ℕ → Argument → Type 0
 givenIn room (Bytes n) = Counts n room

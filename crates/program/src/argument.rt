@@ -1,7 +1,8 @@
 // The program's arguments.
 ghost use mathlib.Core.Path.{_≡_};
 ghost use lib.ListN.{length};
-ghost use Rattle.program.specs.Argument.{givenIn, threeIn};
+ghost use Rattle.program.specs.Argument.{argumentOf, givenIn, threeIn};
+use files::error;
 
 // What reading an argument answers.
 pub enum Argument {
@@ -24,15 +25,25 @@ pub fn room() -> [u8; 131072]
     [0; 131072]
 }
 
+// The error of an argument that is longer than its room (`libc::ENAMETOOLONG`).
+const NAME_TOO_LONG: u64 = 36;
+
+// The meaning of what the system answered, with the error that it left: how many bytes there are, which is none too where they are too many.
+pub fn argument_of(size: usize, error: u64) -> Argument
+    ensures { λ r. ⌜ r ≡ argumentOf size error ⌝ }
+{
+    if error == NAME_TOO_LONG {
+        return Argument::TooLong;
+    }
+    Argument::Bytes(size)
+}
+
 // Reads an argument into `room`; one that is missing has no bytes.
 pub fn read(number: usize, room: &mut [u8]) -> Argument
     ensures { λ r. ⌜ givenIn (now (room .exit)) r ⌝ }
 {
     let size = os::arg(number, room);
-    if os::errno() == libc::ENAMETOOLONG {
-        return Argument::TooLong;
-    }
-    Argument::Bytes(size)
+    argument_of(size, error::number())
 }
 
 // Reads the arguments EDITION, FILE and OUT, each into its room.
