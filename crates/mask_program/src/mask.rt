@@ -1,7 +1,10 @@
 // The masked copy of an accepted card file, from file to file.
 ghost use Prim.Native.Nat.{ℕ, _≤_, _<_};
+ghost use mathlib.Core.Path.{_≡_};
+ghost use mathlib.Core.Bool.{true, false};
 ghost use lib.ListN.{length};
 ghost use Rattle.card_program.specs.Checked.{Checked};
+ghost use Rattle.card_program.specs.Outcome.{isAccepted};
 use crate::copy;
 use card_program::outcome;
 use card_program::outcome::Outcome;
@@ -17,18 +20,33 @@ use out_file::step::Step;
 use program::mistake::Failed;
 use program::mistake::Mistake;
 
-// Gives an accepted file's copy its name, and removes any other.
-fn finish(outcome: Outcome, draft: Draft, out: &[u8]) -> Outcome
+// Gives an accepted file's copy its name.
+fn keep_copy(outcome: Outcome, draft: Draft, out: &[u8]) -> Outcome
+    requires { ⌜ isAccepted outcome ≡ true ⌝ }
     ensures { λ r. ⌜ ((edition : ℕ) → Checked edition outcome → Checked edition r) ⌝ }
 {
-    if !outcome::is_accepted(outcome) {
-        draft.discard(out);
-        return outcome;
-    }
     match draft.keep(out).saved() {
         Saved::Kept => outcome,
         Saved::Told(mistake) => Outcome::Mistake(mistake),
     }
+}
+
+// Removes the copy of a file that is not accepted.
+fn drop_copy(outcome: Outcome, draft: Draft, out: &[u8])
+    requires { ⌜ isAccepted outcome ≡ false ⌝ }
+{
+    draft.discard(out);
+}
+
+// Gives an accepted file's copy its name, and removes any other.
+fn finish(outcome: Outcome, draft: Draft, out: &[u8]) -> Outcome
+    ensures { λ r. ⌜ ((edition : ℕ) → Checked edition outcome → Checked edition r) ⌝ }
+{
+    if outcome::is_accepted(outcome) {
+        return keep_copy(outcome, draft, out);
+    }
+    drop_copy(outcome, draft, out);
+    outcome
 }
 
 // Begins the copy of a file of which the first bytes are in the buffer, and fills it.

@@ -1,26 +1,15 @@
--- `mask_program::mask::finish` meets its contract: the outcome is handed on, or there is a mistake of the files.
-use mathlib.Core.Path.{subst}
-use Rattle.out_file.specs.Saved.{tellsOfFiles}
-use Rattle.out_file.proofs.Tellings.{tells-of-files}
+-- `mask_program::mask::finish` meets its contract: only an accepted file's copy is kept, and only another's removed.
+use mathlib.Core.Path.{sym, _∙_}
 use borrow.Author.Needs.{needs}
 use Rattle.mask_program.proofs.mask.finish.Statement.{statement}
 use Rattle.mask_program.proofs.mask.finish.Tie as tie
 
-returns-3 : tie.Need-returns-3
-returns-3 c edition w =
-    let kept = c .before .before .before .before .keep .result in
-    subst tellsOfFiles (c .before .mistake .given .1) (tells-of-files (kept .step) (kept .error) (c .before .before .before .saved .ensures))
+keep-copy-requires : tie.Need-keep-copy-requires
+keep-copy-requires c κs = sym (c .before .is-accepted .ensures) ∙ c .if1 .taken
+
+drop-copy-requires : tie.Need-drop-copy-requires
+drop-copy-requires c κs = sym (c .before .is-accepted .ensures) ∙ c .if1 .left
 
 pub finish-spec : {M : Type 1} → statement M
 finish-spec =
-    tie.close
-    (tie.spec
-    (λ c κs. tt)
-    (λ c κs. tt)
-    (λ c. search needs)
-    (λ c κs. tt)
-    (λ c κs. tt)
-    (λ c. search needs)
-    (λ c. search needs)
-    (λ c. search needs)
-    returns-3)
+    tie.close (tie.spec (λ c κs. tt) keep-copy-requires (λ c. search needs) drop-copy-requires (λ c. search needs))

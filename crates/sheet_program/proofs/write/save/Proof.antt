@@ -1,8 +1,14 @@
--- `sheet_program::write::save` meets its contract: wherever the draft's calls ended, what is told is of the files.
+-- `sheet_program::write::save` meets its contract: what is written is the sheet's own bytes, and wherever the calls ended, what is told is of the files.
+use mathlib.Core.Path.{refl}
 use Rattle.out_file.proofs.Tellings.{tells-of-files}
+use Rattle.sheet_program.proofs.Wholes.{whole-sheet}
 use borrow.Author.Needs.{needs}
 use Rattle.sheet_program.proofs.write.save.Statement.{statement}
 use Rattle.sheet_program.proofs.write.save.Tie as tie
+
+-- the bytes are the sheet's own
+fill-requires : tie.Need-fill-requires
+fill-requires c κs = whole-sheet _ _ refl (c .before .before .before .before .before .write .ensures) (c .before .before .enum-told .given .1)
 
 returns-2 : tie.Need-returns-2
 returns-2 c = tells-of-files (c .before .fill .result .step) (c .before .fill .result .error) (c .saved .ensures)
@@ -19,6 +25,6 @@ save-spec =
     (λ c. tt)
     (λ c κs. tt)
     (λ c. search needs)
-    (λ c κs. tt)
+    fill-requires
     (λ c κs. tt)
     returns-2)
