@@ -75,8 +75,6 @@ use Rattle.program.specs.declared.argument.Argument.{Argument}
 use Rattle.program.specs.declared.argument.Argument.the-variants.{Bytes as given, TooLong as longer}
 use Rattle.files.specs.declared.reading.Got.{Got}
 use Rattle.files.specs.declared.reading.Got.the-variants.{Bytes, End, Failed}
-use Rattle.out_file.specs.declared.step.Step.{Step}
-use Rattle.out_file.specs.declared.step.Step.the-variants.{Create, Narrow, Write, Store, Close, Rename, SyncFolder, Abandon, Remove, Kept, Unsynced, Gone}
 use Rattle.out_file.specs.declared.saved.Saved.{Saved}
 use Rattle.out_file.specs.declared.saved.Saved.the-variants.{Kept as kept, Told}
 use Rattle.card_program.specs.declared.outcome.Outcome.{Outcome as CardOutcome}
@@ -259,21 +257,6 @@ abbrev pub gotRead : Got → ℕ
 gotRead End = 0
 gotRead (Failed error) = 1
 gotRead (Bytes n) = n + 2
-
--- the place of a step among its variants
-abbrev pub stepRead : Step → ℕ
-stepRead Create = 0
-stepRead Narrow = 1
-stepRead Write = 2
-stepRead Store = 3
-stepRead Close = 4
-stepRead Rename = 5
-stepRead SyncFolder = 6
-stepRead Abandon = 7
-stepRead Remove = 8
-stepRead Kept = 9
-stepRead Unsynced = 10
-stepRead Gone = 11
 
 -- whether something is told of a file that was to be kept
 abbrev pub savedRead : Saved → ℕ
