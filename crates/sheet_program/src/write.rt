@@ -1,6 +1,7 @@
 // The day sheet of a card file, from file to file.
 ghost use mathlib.Core.Path.{_≡_};
 ghost use Rattle.day_sheet.specs.Layout.{bytesOf};
+ghost use Rattle.card_sheet.specs.SheetOf.{sheetFrom};
 ghost use Rattle.card_program.specs.Checked.{Checked};
 ghost use Rattle.out_file.specs.Saved.{tellsOfFiles};
 use card_program::check;
@@ -8,7 +9,6 @@ use card_program::outcome::Outcome;
 use card_run::answer::Accepted;
 use card_run::answer::CardAnswer;
 use day_sheet::layout;
-use day_sheet::sheet::Sheet;
 use day_sheet::writer;
 use day_sheet::writer::SheetWritten;
 use files::error;
@@ -19,11 +19,11 @@ use out_file::saved::Saved;
 use program::mistake::Failed;
 use program::mistake::Mistake;
 
-// Writes the bytes of a sheet, and no other, and gives them their name.
-fn fill(draft: Draft, sheet: Sheet, bytes: &[u8], out: &[u8]) -> Draft
-    requires { ⌜ now bytes ≡ bytesOf sheet ⌝ }
+// Writes the sheet of a file's numbers, and no other bytes, and gives it its name.
+fn fill(draft: Draft, edition: u64, numbers: Accepted, sheet: &[u8], out: &[u8]) -> Draft
+    requires { ⌜ now sheet ≡ bytesOf (sheetFrom edition numbers) ⌝ }
 {
-    if draft.write(bytes) {
+    if draft.write(sheet) {
         return draft.keep(out);
     }
     draft.noted().discard(out)
@@ -33,12 +33,12 @@ fn fill(draft: Draft, sheet: Sheet, bytes: &[u8], out: &[u8]) -> Draft
 fn save(edition: u64, numbers: Accepted, out: &[u8]) -> Saved
     ensures { λ r. ⌜ tellsOfFiles r ⌝ }
 {
-    let sheet = card_sheet::sheet_from(edition, numbers);
-    let mut bytes = [0u8; layout::WIDTH];
-    let SheetWritten::Written = writer::write(sheet, &mut bytes) else {
+    let mut sheet = [0u8; layout::WIDTH];
+    let SheetWritten::Written = writer::write(card_sheet::sheet_from(edition, numbers), &mut sheet)
+    else {
         return Saved::Told(Mistake::System(Failed::Write, 0));
     };
-    fill(draft::begin(out), sheet, &bytes, out).saved()
+    fill(draft::begin(out), edition, numbers, &sheet, out).saved()
 }
 
 // Saves the sheet of an accepted file; any other answer has none.
