@@ -28,7 +28,7 @@ pub fn room() -> [u8; 131072]
 // The error of an argument that is longer than its room (`libc::ENAMETOOLONG`).
 const NAME_TOO_LONG: u64 = 36;
 
-// The meaning of what the system answered, with the error that it left: how many bytes there are, which is none too where they are too many.
+// The meaning of what the system answered, with the error that it left: so many bytes. It counts none where the argument is too long, and the error tells.
 pub fn argument_of(size: usize, error: u64) -> Argument
     ensures { λ r. ⌜ r ≡ argumentOf size error ⌝ }
 {
