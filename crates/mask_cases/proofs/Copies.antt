@@ -7,10 +7,8 @@ use lib.ListN.{length, take, drop, length-take, take-append-drop, drop-of-length
 use lib.Seq.{length-take-le, take-at, drop-at, take-add, drop-drop, take-append-le, drop-append-le}
 use Rattle.cases.proofs.Parts.{part-then-rest, to-the-end}
 use Rattle.chunks.specs.Chunks.{joinedChunks}
-use Rattle.lines.specs.Lines.{cut}
-use Rattle.lines.proofs.Cuts.{cut-is-cut}
 use Rattle.card_mask.specs.Masked.{maskedFile, finishedIn}
-use Rattle.card_mask.proofs.InChunks.{copied-as-whole, lines-length}
+use Rattle.card_mask.proofs.InChunks.{copied-as-whole, masked-length}
 use Rattle.card_mask.proofs.Finished.{finished-within}
 use Rattle.mask_cases.specs.Copying.{between, MasksBetween}
 
@@ -24,10 +22,6 @@ masked-on s t =
     sym (append-assoc front (take (finishedIn back) (maskedFile back)) (drop (finishedIn back) (maskedFile back))) ∙
     copied-as-whole (s ∷ t ∷ []) ∙
     ap (λ l. maskedFile (s ++ l)) (append-nil t)
-
--- masking keeps the length
-masked-length : (s : List ℕ) → length (maskedFile s) ≡ length s
-masked-length s = lines-length (cut s .pieces) (cut s .rest) ∙ ap length (cut-is-cut s .whole)
 
 -- the finished records between two places end no later than the second place
 pub ends-within : (copy : List ℕ) (done end : ℕ) → done ≤ end → done + finishedIn (between copy done end) ≤ end

@@ -1,9 +1,9 @@
 -- The temporary name of a file that is to have a path.
-use Prim.Native.Nat.{ℕ, suc, _+_, min}
+use Prim.Native.Nat.{ℕ, suc, min}
 use mathlib.Core.Path.{_≡_}
 use mathlib.Core.List.{List, [], _∷_, _++_}
 use mathlib.Core.Bool.{cond}
-use lib.ListN.{length, take}
+use lib.ListN.{take}
 use lib.Dec.{eqb, ltb}
 use Rattle.text.specs.Literal.{ascii}
 use Rattle.io.specs.Counts.{Counts}
@@ -17,13 +17,7 @@ folderSize (b ∷ s) = cond (ltb 0 (folderSize s)) (suc (folderSize s)) (cond (e
 abbrev pub folderOf : List ℕ → List ℕ
 folderOf path = take (min (folderSize path) 4096) path
 
--- a text was put behind the first bytes of a buffer
-pub record Put (text : List ℕ) (before : List ℕ) (at end : ℕ) (after : List ℕ) : Type 0 where
-  pub size : end ≡ at + length text
-  pub content : take end after ≡ take at before ++ text
-  pub same : length after ≡ length before
-
 -- the first bytes of a buffer are the folder, ".lossivurn-" and the mark
 pub record Named (path mark : List ℕ) (size : ℕ) (name : List ℕ) : Type 0 where
   pub counts : Counts size name
-  pub content : take size name ≡ (folderOf path ++ ascii ".lossivurn-") ++ mark
+  pub content : take size name ≡ folderOf path ++ (ascii ".lossivurn-" ++ mark)

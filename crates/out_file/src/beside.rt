@@ -1,9 +1,10 @@
 // The temporary name of a file that is to take another's place: in the same folder, so that a rename never goes from one disk to another.
-ghost use Prim.Native.Nat.{_+_, _-_, _≤_};
+ghost use Prim.Native.Nat.{_-_, _≤_};
 ghost use mathlib.Core.Path.{_≡_};
 ghost use lib.ListN.{length, drop};
-ghost use Rattle.out_file.specs.Beside.{Put, Named};
+ghost use Rattle.out_file.specs.Beside.{Named};
 use crate::folder;
+use wording::put;
 
 // How many bytes stand at the end of a temporary name for chance to fill in.
 pub(crate) const MARK: usize = 6;
@@ -11,22 +12,14 @@ pub(crate) const MARK: usize = 6;
 // Room for a folder's path, `.lossivurn-` and the mark.
 pub(crate) const ROOM: usize = 4113;
 
-// Puts a text behind the first `at` bytes, and answers how many are there then.
-fn put(text: &[u8], out: &mut [u8], at: usize) -> usize
-    requires { ⌜ at + length (now text) ≤ length (now out) ⌝ }
-    ensures { λ r. ⌜ Put (now (text .entry)) (now (out .entry)) at r (now (out .exit)) ⌝ }
-{
-    at + bytes::copy(text, &mut out[at..])
-}
-
 // Puts the temporary name with this mark for the file of this path into `name`, and answers how long it is.
 pub(crate) fn put_name(path: &[u8], mark: [u8; MARK], name: &mut [u8]) -> usize
     requires { ⌜ 4113 ≤ length (now name) ⌝ }
     ensures { λ r. ⌜ Named (now (path .entry)) mark r (now (name .exit)) ⌝ }
 {
-    let behind_folder = put(folder::folder_of(path), name, 0);
-    let behind_front = put(b".lossivurn-", name, behind_folder);
-    put(&mark, name, behind_front)
+    let behind_folder = put::text(folder::folder_of(path), name, 0);
+    let behind_front = put::text(b".lossivurn-", name, behind_folder);
+    put::text(&mark, name, behind_front)
 }
 
 // The mark of a temporary name: its last bytes. A shorter name has none.
