@@ -83,6 +83,10 @@ zero-ends (pos n) error room e = by (eqb room 0) refl e
     by true k e = absurd (true≢false (sym (ap isEnd e)))
     by false k e = none (eqb (min n room) 0) refl k e
 
+room-there : (answer : ℤ) (error room : ℕ) → gotOf answer error room ≡ End → room ≡ 0 → ⊥
+unfolding isEnd
+room-there answer error room e z = true≢false (sym (ap isEnd (no-room answer error room z ∙ e)))
+
 -- once it is decided, later reads change nothing
 decided : (now : Got) (reads : List Read) → ((later : Got) → onwards now later ≡ now) → standsAfter now reads ≡ now
 unfolding standsAfter
@@ -104,10 +108,19 @@ never-the-end (r ∷ reads) n e = by (meaning r) refl e (never-the-end reads)
           in-a-row = ap (λ (l : List Read). r ∷ l) (w .in-a-row);
           all-moved = ((m, is), w .all-moved);
           no-failure = w .no-failure;
+          some-room = w .some-room;
         }
 
     by : (got : Got) → meaning r ≡ got → standsAfter got reads ≡ End → ((m : ℕ) → standsAfter (Bytes m) reads ≡ End → Ended reads) → Ended (r ∷ reads)
     by (Bytes m) is e rest = further m is (rest m e)
     by End is e rest =
-        record { before = []; last = r; after = reads; in-a-row = refl; all-moved = tt; no-failure = zero-ends (r .answer) (r .error) (r .room) is }
+        record {
+          before = [];
+          last = r;
+          after = reads;
+          in-a-row = refl;
+          all-moved = tt;
+          no-failure = zero-ends (r .answer) (r .error) (r .room) is;
+          some-room = room-there (r .answer) (r .error) (r .room) is;
+        }
     by (Failed error) is e rest = absurd (true≢false (sym (ap isEnd (sym (decided (Failed error) reads (λ later. refl)) ∙ e))))

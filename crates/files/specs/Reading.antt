@@ -49,3 +49,4 @@ pub record Ended (reads : List Read) : Type 0 where
   pub in-a-row : reads ≡ before ++ (last ∷ after)
   pub all-moved : AllMoved before
   pub no-failure : last .answer ≡ pos 0
+  pub some-room : last .room ≡ 0 → ⊥
