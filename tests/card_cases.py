@@ -1,5 +1,5 @@
 #!/usr/bin/env python3
-"""Our own cases of card files, written by hand from document 01 and requests Q-7 and Q-2 of document 02.
+"""Our own cases of card files, written by hand from document 01 and requests Q-7, Q-2 and Q-4 of document 02.
 
     tests/card_cases.py           write the files below
     tests/card_cases.py --list    and print where in `stdout` each case stands, its name and its answer
@@ -15,12 +15,13 @@ the field question.
 A case is a name, how its file is built, and the line that these documents give it. The lines are written here by hand: nothing in this script
 computes an answer, and no program under test was asked for one. Where a program prints another line, the documents decide which is right.
 
-A line is `A date movement records batches sales gross discount net credits creditnet debits debitnet` or `R number record column`; a fed case has
-one for each call, `-` for none.
+A line is `A date movement records batches fsales fgross fdiscount fnet ssales sgross sdiscount snet credits creditnet debits debitnet` (forecast, settled,
+adjustments) or `R number record column`; a fed case has one for each call, `-` for none.
 Behind the answer of a file that is cut in two at every place stands how many cuts have that answer: as many as the file has bytes, and one.
 """
 import field_cases
-from records import A0, A9, ACCEPTED, ADJUSTED, AJ, CRLF, CV, DEBIT, FIVE, L0, L9, adjustment, file_of, numbered, put, sale, whole
+from records import (A0, A9, ACCEPTED, ADJUSTED, ADVANCED, AHEAD, AJ, CRLF, CV, DEBIT, FIVE, FORECAST, L0, L9, adjustment, file_of, numbered, put, sale,
+                     whole)
 from stored import cut_at_every_place, number, outside, run, write_cases, write_stdout
 
 # ---- How a file is built -------------------------------------------------------------------------------------------------------------------
@@ -60,16 +61,16 @@ def feed(name, calls, *answers, edition=2):
 
 card("an empty file", b"", "R 12 1 0")
 card("an empty file, edition 1", b"", "R 12 1 0", edition=1)
-card("five records", FIVE, "A 20231115 000042 5 1 1 10000 250 9750 0 0 0 0")
-card("five records, edition 1", FIVE, "A 20231115 000042 5 1 1 10000 250 9750 0 0 0 0", edition=1)
+card("five records", FIVE, "A 20231115 000042 5 1 0 0 0 0 1 10000 250 9750 0 0 0 0")
+card("five records, edition 1", FIVE, "A 20231115 000042 5 1 0 0 0 0 1 10000 250 9750 0 0 0 0", edition=1)
 card("CV numbered 000004", sale(put(CV, 194, b"000004")), "R 9 3 194")
 card("capture 7 under edition 1", sale(put(CV, 54, b"7")), "R 8 3 54", edition=1)
 card("capture 7 under edition 2", sale(put(CV, 54, b"7")), ACCEPTED)
 card("net 9751", sale(put(CV, 77, b"00000009751")), "R 10 3 77")
-card("20240229 is a date", head(put(A0, 9, b"20240229")), "A 20240229 000042 5 1 1 10000 250 9750 0 0 0 0")
+card("20240229 is a date", head(put(A0, 9, b"20240229")), "A 20240229 000042 5 1 0 0 0 0 1 10000 250 9750 0 0 0 0")
 card("20230229 is none", head(put(A0, 9, b"20230229")), "R 8 1 9")
 card("19991231 is none", head(put(A0, 9, b"19991231")), "R 8 1 9")
-card("20991231 is a date", head(put(A0, 9, b"20991231")), "A 20991231 000042 5 1 1 10000 250 9750 0 0 0 0")
+card("20991231 is a date", head(put(A0, 9, b"20991231")), "A 20991231 000042 5 1 0 0 0 0 1 10000 250 9750 0 0 0 0")
 
 # ---- Editions: 1 comes before everything ----------------------------------------------------------------------------------------------------
 
@@ -98,28 +99,26 @@ THIRD_OF_3 = numbered(put(THIRD, 107, b"03" b"03" b"000000000073" b"00000009999"
 L9_OF_3 = b"L9" b"000003" b"00000000030000" b"000006"
 A9_OF_7 = b"A9" b"000007" b"000007"
 card("the instalments' amounts are added, not the sale's", whole(A0, L0, FIRST_OF_3, SECOND_OF_3, THIRD_OF_3, L9_OF_3, A9_OF_7),
-     "A 20231115 000042 7 1 3 30000 750 29250 0 0 0 0")
+     "A 20231115 000042 7 1 0 0 0 0 3 30000 750 29250 0 0 0 0")
 card("L9 with the sale's amount once per instalment",
      whole(A0, L0, FIRST_OF_3, SECOND_OF_3, THIRD_OF_3, put(L9_OF_3, 9, b"00000000090000"), A9_OF_7), "R 11 6 9")
 ONE_OF_1 = put(CV, 107, b"01" b"01" b"000000000071" b"00000004000" b"00000000100" b"00000003900")
-card("1 of 1 is an instalment", whole(A0, L0, ONE_OF_1, put(L9, 9, b"00000000004000"), A9), "A 20231115 000042 5 1 1 4000 100 3900 0 0 0 0")
+card("1 of 1 is an instalment", whole(A0, L0, ONE_OF_1, put(L9, 9, b"00000000004000"), A9), "A 20231115 000042 5 1 0 0 0 0 1 4000 100 3900 0 0 0 0")
 card("1 of 1, and L9 with the sale's amount", whole(A0, L0, ONE_OF_1, L9, A9), "R 11 4 9")
-card("an instalment of nothing", whole(A0, L0, put(CV, 107, b"99" b"99"), put(L9, 9, b"00000000000000"), A9), "A 20231115 000042 5 1 1 0 0 0 0 0 0 0")
+card("an instalment of nothing", whole(A0, L0, put(CV, 107, b"99" b"99"), put(L9, 9, b"00000000000000"), A9), "A 20231115 000042 5 1 0 0 0 0 1 0 0 0 0 0 0 0")
 
 # ---- Batches and sales -----------------------------------------------------------------------------------------------------------------------
 
-card("no batch", whole(A0, b"A9" b"000002" b"000002"), "A 20231115 000042 2 0 0 0 0 0 0 0 0 0")
-card("a batch of no sale", whole(A0, L0, b"L9" b"000000" b"00000000000000" b"000003", b"A9" b"000004" b"000004"), "A 20231115 000042 4 1 0 0 0 0 0 0 0 0")
+card("no batch", whole(A0, b"A9" b"000002" b"000002"), "A 20231115 000042 2 0 0 0 0 0 0 0 0 0 0 0 0 0")
+card("a batch of no sale", whole(A0, L0, b"L9" b"000000" b"00000000000000" b"000003", b"A9" b"000004" b"000004"), "A 20231115 000042 4 1 0 0 0 0 0 0 0 0 0 0 0 0")
 L0_5, L9_6 = numbered(L0, 5), b"L9" b"000000" b"00000000000000" b"000006"
-card("two batches, the second of no sale", whole(A0, L0, CV, L9, L0_5, L9_6, A9_OF_7), "A 20231115 000042 7 2 1 10000 250 9750 0 0 0 0")
+card("two batches, the second of no sale", whole(A0, L0, CV, L9, L0_5, L9_6, A9_OF_7), "A 20231115 000042 7 2 0 0 0 0 1 10000 250 9750 0 0 0 0")
 card("L9 counts the sales of its own batch", whole(A0, L0, CV, L9, L0_5, put(L9_6, 3, b"000001"), A9_OF_7), "R 11 6 3")
 card("L9 sums the sales of its own batch", whole(A0, L0, CV, L9, L0_5, put(L9_6, 9, b"00000000010000"), A9_OF_7), "R 11 6 9")
 card("L9 sums gross, not net", batch_end(put(L9, 9, b"00000000009750")), "R 11 4 9")
 card("A9 counts itself", end(put(A9, 3, b"000004")), "R 11 5 3")
-for launch_type in (b"0", b"1", b"2"):
-    card("launch type %s counts and sums" % launch_type.decode(), sale(put(CV, 44, launch_type)), ACCEPTED)
 TOP = put(CV, 55, b"99999999999" b"00000000000" b"99999999999")
-card("the largest amount", whole(A0, L0, TOP, put(L9, 9, b"00099999999999"), A9), "A 20231115 000042 5 1 1 99999999999 0 99999999999 0 0 0 0")
+card("the largest amount", whole(A0, L0, TOP, put(L9, 9, b"00099999999999"), A9), "A 20231115 000042 5 1 0 0 0 0 1 99999999999 0 99999999999 0 0 0 0")
 # 1001 sales of 99999999999 sum to 100099999998999, fifteen digits.
 card("a sum of fifteen digits equals no field: its last fourteen",
      whole(A0, L0, *[numbered(TOP, 3 + i) for i in range(1001)], b"L9" b"001001" b"00099999998999" b"001004", b"A9" b"001005" b"001005"),
@@ -209,16 +208,16 @@ card("7: a letter in A0's date", head(put(A0, 16, b"x")), "R 7 1 9")
 card("7 before 8: a letter in a day that is none", head(put(A0, 9, b"2023139x")), "R 7 1 9")
 for day in (b"20231301", b"20230001", b"20230431", b"20231100", b"20231132", b"21000101", b"00000000", b"99999999"):
     card("8: %s is no day of A0" % day.decode(), head(put(A0, 9, day)), "R 8 1 9")
-card("the first day", head(put(A0, 9, b"20000101")), "A 20000101 000042 5 1 1 10000 250 9750 0 0 0 0")
-card("29 February 2000", head(put(A0, 9, b"20000229")), "A 20000229 000042 5 1 1 10000 250 9750 0 0 0 0")
+card("the first day", head(put(A0, 9, b"20000101")), "A 20000101 000042 5 1 0 0 0 0 1 10000 250 9750 0 0 0 0")
+card("29 February 2000", head(put(A0, 9, b"20000229")), "A 20000229 000042 5 1 0 0 0 0 1 10000 250 9750 0 0 0 0")
 card("7: a letter in A0's time", head(put(A0, 22, b"x")), "R 7 1 17")
 card("7 before 8: a letter in a time that is none", head(put(A0, 17, b"99999x")), "R 7 1 17")
 for time in (b"240000", b"236000", b"235960"):
     card("8: %s is no time" % time.decode(), head(put(A0, 17, time)), "R 8 1 17")
 card("the last second", head(put(A0, 17, b"235959")), ACCEPTED)
 card("7: a blank in the movement", head(put(A0, 23, b" ")), "R 7 1 23")
-card("movement 999999", head(put(A0, 23, b"999999")), "A 20231115 999999 5 1 1 10000 250 9750 0 0 0 0")
-card("movement 000000", head(put(A0, 23, b"000000")), "A 20231115 000000 5 1 1 10000 250 9750 0 0 0 0")
+card("movement 999999", head(put(A0, 23, b"999999")), "A 20231115 999999 5 1 0 0 0 0 1 10000 250 9750 0 0 0 0")
+card("movement 000000", head(put(A0, 23, b"000000")), "A 20231115 000000 5 1 0 0 0 0 1 10000 250 9750 0 0 0 0")
 card("7: byte 31 in the name", head(put(A0, 29, b"\x1f")), "R 7 1 29")
 card("7: byte 127 in the name", head(put(A0, 58, b"\x7f")), "R 7 1 29")
 card("7: a lone CR in the name", head(put(A0, 40, b"\r")), "R 7 1 29")
@@ -514,7 +513,7 @@ for edition in (1, 2):
     card(f"accents in an adjustment, edition {edition}", adjustment(ACCENTED_AJ), ADJUSTED, edition)
 HIGH = bytes(range(160, 256))
 card("every byte from 160 on", file_of((4, 20975, put(CV, 3, HIGH[:15]), put(CV, 3, HIGH[15:30]), put(put(AJ, 3, HIGH[30:45]), 80, HIGH[45:75]),
-                                        put(DEBIT, 80, HIGH[66:]))), "A 20231115 000042 8 1 2 20000 500 19500 1 2925 1 1950")
+                                        put(DEBIT, 80, HIGH[66:]))), "A 20231115 000042 8 1 0 0 0 0 2 20000 500 19500 1 2925 1 1950")
 card("UTF-8, both bytes from 160 on", head(put(A0, 29, "é".encode("utf-8"))), ACCEPTED)
 card("UTF-8, the second byte below 160", head(put(A0, 29, "É".encode("utf-8"))), "R 7 1 29")
 card("an accent and byte 159", sale(put(ACCENTED, 17, b"\x9f")), "R 7 3 3")
@@ -524,7 +523,7 @@ card("accents, and the fault of a later record", whole(NAMED, L0, ACCENTED, L9, 
 
 # ---- Adjustments: what the trailers cover, and what is answered -----------------------------------------------------------------------------------
 
-MIXED = "A 20231115 000042 7 1 1 10000 250 9750 1 2925 1 1950"
+MIXED = "A 20231115 000042 7 1 0 0 0 0 1 10000 250 9750 1 2925 1 1950"
 card("a sale, a credit and a debit", file_of((3, 10975, CV, AJ, DEBIT)), MIXED)
 card("a sale, a credit and a debit, edition 1", file_of((3, 10975, CV, AJ, DEBIT)), MIXED, edition=1)
 card("in another order", file_of((3, 10975, AJ, DEBIT, CV)), MIXED)
@@ -532,7 +531,7 @@ card("below zero on the way is no fault", file_of((3, 10975, DEBIT, AJ, CV)), MI
 for launch_type in (b"0", b"2"):
     card("launch type %s of adjustments counts and sums" % launch_type.decode(),
          file_of((3, 10975, CV, put(AJ, 66, launch_type), put(DEBIT, 66, launch_type))), MIXED)
-card("a sale and a debit", file_of((2, 8050, CV, DEBIT)), "A 20231115 000042 6 1 1 10000 250 9750 0 0 1 1950")
+card("a sale and a debit", file_of((2, 8050, CV, DEBIT)), "A 20231115 000042 6 1 0 0 0 0 1 10000 250 9750 0 0 1 1950")
 card("a credit without a sale behind it", adjustment(put(put(put(AJ, 18, b"0" * 12), 30, b"0" * 8), 163, b" " * 19)), ADJUSTED)
 card("L9 counts what it has, not CV alone", file_of((1, 10975, CV, AJ, DEBIT)), "R 11 6 3")
 card("L9 counts what it has, not AJ alone", file_of((2, 10975, CV, AJ, DEBIT)), "R 11 6 3")
@@ -543,36 +542,85 @@ for name, total in (("the adjustments' gross", 11000), ("the credit's gross", 11
                     ("the sale's net", 10725), ("one more", 10976), ("one less", 10974)):
     card(f"L9's sum: {name}", file_of((3, total, CV, AJ, DEBIT)), "R 11 6 9")
 card("L9's sum: AJ's gross alone", file_of((1, 3000, AJ)), "R 11 4 9")
-card("an instalment and a debit", file_of((2, 2050, ONE_OF_1, DEBIT)), "A 20231115 000042 6 1 1 4000 100 3900 0 0 1 1950")
+card("an instalment and a debit", file_of((2, 2050, ONE_OF_1, DEBIT)), "A 20231115 000042 6 1 0 0 0 0 1 4000 100 3900 0 0 1 1950")
 EVEN = put(AJ, 76, b"2")  # a debit of 2925, and one of 2926
 OVER = put(EVEN, 110, b"00000002926" b"00000000000" b"00000002926")
-card("a sum of zero", file_of((2, 0, AJ, EVEN)), "A 20231115 000042 6 1 0 0 0 0 1 2925 1 2925")
-card("a sum of zero, the debit first", file_of((2, 0, EVEN, AJ)), "A 20231115 000042 6 1 0 0 0 0 1 2925 1 2925")
+card("a sum of zero", file_of((2, 0, AJ, EVEN)), "A 20231115 000042 6 1 0 0 0 0 0 0 0 0 1 2925 1 2925")
+card("a sum of zero, the debit first", file_of((2, 0, EVEN, AJ)), "A 20231115 000042 6 1 0 0 0 0 0 0 0 0 1 2925 1 2925")
 for total in (0, 1, 99999999999999, 5851, 2925, 2926):
     card(f"one below zero equals no trailer, not {total}", file_of((2, total, AJ, OVER)), "R 11 5 9")
 for total in (0, 1950, 99999999998050):
     card(f"a debit alone equals no trailer, not {total}", file_of((1, total, DEBIT)), "R 11 4 9")
 NOTHING = put(AJ, 110, b"00000000000" b"00000000000" b"00000000000")
-card("a credit of nothing", file_of((1, 0, NOTHING)), "A 20231115 000042 5 1 0 0 0 0 1 0 0 0")
-card("a debit of nothing", file_of((1, 0, put(NOTHING, 76, b"2"))), "A 20231115 000042 5 1 0 0 0 0 0 0 1 0")
-card("a net of nothing", file_of((1, 0, put(AJ, 110, b"00000003000" b"00000003000" b"00000000000"))), "A 20231115 000042 5 1 0 0 0 0 1 0 0 0")
+card("a credit of nothing", file_of((1, 0, NOTHING)), "A 20231115 000042 5 1 0 0 0 0 0 0 0 0 1 0 0 0")
+card("a debit of nothing", file_of((1, 0, put(NOTHING, 76, b"2"))), "A 20231115 000042 5 1 0 0 0 0 0 0 0 0 0 0 1 0")
+card("a net of nothing", file_of((1, 0, put(AJ, 110, b"00000003000" b"00000003000" b"00000000000"))), "A 20231115 000042 5 1 0 0 0 0 0 0 0 0 1 0 0 0")
 TOP_AJ = put(AJ, 110, b"99999999999" b"00000000000" b"99999999999")
-card("the largest adjustment", file_of((1, 99999999999, TOP_AJ)), "A 20231115 000042 5 1 0 0 0 0 1 99999999999 0 0")
+card("the largest adjustment", file_of((1, 99999999999, TOP_AJ)), "A 20231115 000042 5 1 0 0 0 0 0 0 0 0 1 99999999999 0 0")
 # 1001 credits of 99999999999 and two debits: 100099999998999, fifteen digits, less 199999999998.
 card("fifteen digits on the way are no fault", file_of((1003, 99899999999001, *[TOP_AJ] * 1001, *[put(TOP_AJ, 76, b"2")] * 2)),
-     "A 20231115 000042 1007 1 0 0 0 0 1001 100099999998999 2 199999999998")
+     "A 20231115 000042 1007 1 0 0 0 0 0 0 0 0 1001 100099999998999 2 199999999998")
 
 # Several batches, each of which starts anew
-card("a batch of each", file_of((1, 10000, CV), (1, 2925, AJ), (2, 8050, CV, DEBIT)), "A 20231115 000042 12 3 2 20000 500 19500 1 2925 1 1950")
+card("a batch of each", file_of((1, 10000, CV), (1, 2925, AJ), (2, 8050, CV, DEBIT)), "A 20231115 000042 12 3 0 0 0 0 2 20000 500 19500 1 2925 1 1950")
 card("what is taken in a batch is not taken in the next", file_of((2, 8050, CV, DEBIT), (1, 2925, AJ)),
-     "A 20231115 000042 9 2 1 10000 250 9750 1 2925 1 1950")
+     "A 20231115 000042 9 2 0 0 0 0 1 10000 250 9750 1 2925 1 1950")
 card("L9 counts the adjustments of its own batch", file_of((2, 8050, CV, DEBIT), (2, 2925, AJ)), "R 11 8 3")
 for total in (975, 10975, 8050):
     card(f"L9 sums its own batch, not to {total}", file_of((2, 8050, CV, DEBIT), (1, total, AJ)), "R 11 8 9")
 for total in (0, 1950, 8050):
     card(f"no other batch makes up for a debit, not {total}", file_of((1, 10000, CV), (1, total, DEBIT)), "R 11 7 9")
 card("a batch of nothing behind adjustments", file_of((3, 10975, CV, AJ, DEBIT), (0, 0)),
-     "A 20231115 000042 9 2 1 10000 250 9750 1 2925 1 1950")
+     "A 20231115 000042 9 2 0 0 0 0 1 10000 250 9750 1 2925 1 1950")
+
+# ---- Forecasts and settled sales: launch type 0, and 1 and 2 ------------------------------------------------------------------------------------------
+
+for edition in (2, 1):
+    card(f"launch type 0 is forecast, edition {edition}", sale(AHEAD), FORECAST, edition)
+    card(f"launch type 1 is settled, edition {edition}", sale(CV), ACCEPTED, edition)
+    card(f"launch type 2 is settled, edition {edition}", sale(ADVANCED), ACCEPTED, edition)
+# A sale of 4000 = 100 + 3900, and one of 500 = 0 + 500.
+SMALLER, SMALL = put(CV, 55, b"00000004000" b"00000000100" b"00000003900"), put(CV, 55, b"00000000500" b"00000000000" b"00000000500")
+ONE_OF_EACH = "A 20231115 000042 7 1 1 4000 100 3900 2 10500 250 10250 0 0 0 0"
+EARLY, LATE = put(SMALLER, 44, b"0"), put(SMALL, 44, b"2")
+for first, second, third in ((EARLY, CV, LATE), (EARLY, LATE, CV), (CV, EARLY, LATE), (CV, LATE, EARLY), (LATE, EARLY, CV), (LATE, CV, EARLY)):
+    order = ", ".join(one[43:44].decode() for one in (first, second, third))
+    card(f"one of each launch type: {order}", file_of((3, 14500, first, second, third)), ONE_OF_EACH)
+card("a sale as forecast and when paid", file_of((2, 20000, AHEAD, CV)), "A 20231115 000042 6 1 1 10000 250 9750 1 10000 250 9750 0 0 0 0")
+card("the same in two batches", file_of((1, 10000, AHEAD), (1, 10000, CV)), "A 20231115 000042 8 2 1 10000 250 9750 1 10000 250 9750 0 0 0 0")
+card("a batch of forecasts alone", file_of((2, 14000, AHEAD, EARLY), (1, 10000, CV)), "A 20231115 000042 9 2 2 14000 350 13650 1 10000 250 9750 0 0 0 0")
+card("a sale between forecasts", file_of((3, 24000, AHEAD, CV, EARLY), (1, 500, LATE)), "A 20231115 000042 10 2 2 14000 350 13650 2 10500 250 10250 0 0 0 0")
+card("no settled sale", file_of((2, 14000, AHEAD, EARLY)), "A 20231115 000042 6 1 2 14000 350 13650 0 0 0 0 0 0 0 0")
+
+# An instalment's amounts go to its set, not the sale's
+card("a forecast of an instalment", file_of((1, 4000, put(ONE_OF_1, 44, b"0"))), "A 20231115 000042 5 1 1 4000 100 3900 0 0 0 0 0 0 0 0")
+card("an advanced instalment", file_of((1, 4000, put(ONE_OF_1, 44, b"2"))), "A 20231115 000042 5 1 0 0 0 0 1 4000 100 3900 0 0 0 0")
+card("three instalments: paid, advanced, forecast", file_of((3, 30000, FIRST_OF_3, put(SECOND_OF_3, 44, b"2"), put(THIRD_OF_3, 44, b"0"))),
+     "A 20231115 000042 7 1 1 9999 250 9749 2 20001 500 19501 0 0 0 0")
+card("three instalments: paid, and two forecast", file_of((3, 30000, FIRST_OF_3, put(SECOND_OF_3, 44, b"0"), put(THIRD_OF_3, 44, b"0"))),
+     "A 20231115 000042 7 1 2 19998 500 19498 1 10002 250 9752 0 0 0 0")
+card("a forecast instalment, and L9 with the sale's amount", file_of((1, 10000, put(ONE_OF_1, 44, b"0"))), "R 11 4 9")
+
+# L9 and A9 go by all launch types together
+for name, total in (("the settled alone", 10500), ("the forecasts alone", 4000), ("the advanced alone", 500), ("no advanced", 14000), ("nothing", 0)):
+    card(f"L9's sum: {name}", file_of((3, total, EARLY, CV, LATE)), "R 11 6 9")
+for name, count in (("the settled alone", 2), ("the forecasts alone", 1), ("nothing", 0)):
+    card(f"L9's count: {name}", file_of((count, 14500, EARLY, CV, LATE)), "R 11 6 3")
+card("A9 without the forecast", whole(A0, L0, AHEAD, L9, put(A9, 3, b"000004")), "R 11 5 3")
+card("a batch of forecasts, and L9 of nothing", file_of((0, 0, AHEAD)), "R 11 4 3")
+
+# A forecast keeps all other rules
+card("a forecast whose amounts disagree", sale(put(AHEAD, 77, b"00000009751")), "R 10 3 77")
+card("a forecast with a wrong number", sale(numbered(AHEAD, 4)), "R 9 3 194")
+card("the largest forecast", file_of((1, 99999999999, put(TOP, 44, b"0"))), "A 20231115 000042 5 1 1 99999999999 0 99999999999 0 0 0 0 0 0 0 0")
+# 500 forecasts and 500 settled sales of 99999999999.
+card("a thousand of the largest, every second a forecast", file_of((1000, 99999999999000, *[put(TOP, 44, b"0"), TOP] * 500)),
+     "A 20231115 000042 1004 1 500 49999999999500 0 49999999999500 500 49999999999500 0 49999999999500 0 0 0 0")
+
+# Adjustments are in neither set, whatever their launch type
+for launch_type in (b"0", b"1", b"2"):
+    card("a forecast, and adjustments of launch type %s" % launch_type.decode(),
+         file_of((3, 10975, AHEAD, put(AJ, 66, launch_type), put(DEBIT, 66, launch_type))), "A 20231115 000042 7 1 1 10000 250 9750 0 0 0 0 1 2925 1 1950")
 
 # ---- Record by record --------------------------------------------------------------------------------------------------------------------------
 
@@ -592,7 +640,7 @@ feed("a record after two accepted closes", R + [CLOSE, CLOSE, L0, CLOSE], "-", "
 feed("a record after A9 is 13, for good", R + [A9, CLOSE, A0], "-", "-", "-", "-", "-", "R 13 6 0", "R 13 6 0", "R 13 6 0")
 feed("13 before 4: an empty record after A9", R + [b"", CLOSE], "-", "-", "-", "-", "-", "R 13 6 0", "R 13 6 0")
 feed("13: a record with an LF after A9", R + [b"XX\n"], "-", "-", "-", "-", "-", "R 13 6 0")
-feed("no batch", [A0, b"A9" b"000002" b"000002", CLOSE], "-", "-", "A 20231115 000042 2 0 0 0 0 0 0 0 0 0")
+feed("no batch", [A0, b"A9" b"000002" b"000002", CLOSE], "-", "-", "A 20231115 000042 2 0 0 0 0 0 0 0 0 0 0 0 0 0")
 feed("closed behind A0, and L0 after it", [A0, CLOSE, L0, CLOSE], "-", "R 12 2 0", "R 12 2 0", "R 12 2 0")
 feed("closed behind L0", [A0, L0, CLOSE], "-", "-", "R 12 3 0")
 feed("closed behind CV", [A0, L0, CV, CLOSE], "-", "-", "-", "R 12 4 0")
@@ -626,9 +674,9 @@ feed("an LF at the end is one byte more", [A0, L0 + b"\n"], "-", "R 6 2 0")
 feed("two records with their line ends, as one", [whole(A0, L0)], "R 6 1 0")
 feed("a CR as the last byte of A0's NSEQ", [put(A0, 75, b"\r")], "R 7 1 70")
 feed("1A as a record", [A0, b"\x1a"], "-", "R 4 2 1")
-feed("two batches", R[:4] + [L0_5, L9_6, A9_OF_7, CLOSE], *["-"] * 7, "A 20231115 000042 7 2 1 10000 250 9750 0 0 0 0")
+feed("two batches", R[:4] + [L0_5, L9_6, A9_OF_7, CLOSE], *["-"] * 7, "A 20231115 000042 7 2 0 0 0 0 1 10000 250 9750 0 0 0 0")
 feed("three instalments", [A0, L0, FIRST_OF_3, SECOND_OF_3, THIRD_OF_3, L9_OF_3, A9_OF_7, CLOSE], *["-"] * 7,
-     "A 20231115 000042 7 1 3 30000 750 29250 0 0 0 0")
+     "A 20231115 000042 7 1 0 0 0 0 3 30000 750 29250 0 0 0 0")
 
 
 def fed(file):
@@ -636,15 +684,22 @@ def fed(file):
     return file.split(CRLF)[:-1] + [CLOSE]
 
 
+feed("a forecast", fed(sale(AHEAD)), *["-"] * 5, FORECAST)
+feed("a forecast, edition 1", fed(sale(AHEAD)), *["-"] * 5, FORECAST, edition=1)
+feed("one of each launch type", fed(file_of((3, 14500, EARLY, CV, LATE))), *["-"] * 7, ONE_OF_EACH)
+feed("one of each, closed twice", fed(file_of((3, 14500, LATE, EARLY, CV))) + [CLOSE], *["-"] * 7, ONE_OF_EACH, ONE_OF_EACH)
+feed("L9's sum: the settled alone", fed(file_of((3, 10500, EARLY, CV, LATE))), *["-"] * 5, *["R 11 6 9"] * 3)
+feed("a batch of forecasts, and one of the sale", fed(file_of((1, 10000, AHEAD), (1, 10000, CV))), *["-"] * 8,
+     "A 20231115 000042 8 2 1 10000 250 9750 1 10000 250 9750 0 0 0 0")
 feed("an adjustment", fed(adjustment(AJ)), *["-"] * 5, ADJUSTED)
 feed("an adjustment, edition 1", fed(adjustment(AJ)), *["-"] * 5, ADJUSTED, edition=1)
 feed("an adjustment with a blank card", fed(adjustment(put(AJ, 163, b" " * 19))), *["-"] * 5, ADJUSTED)
 feed("a sale, a credit and a debit", fed(file_of((3, 10975, CV, AJ, DEBIT))), *["-"] * 7, MIXED)
 feed("a debit first: below zero on the way", fed(file_of((3, 10975, DEBIT, AJ, CV))), *["-"] * 7, MIXED)
-feed("a sum of zero", fed(file_of((2, 0, EVEN, AJ))), *["-"] * 6, "A 20231115 000042 6 1 0 0 0 0 1 2925 1 2925")
+feed("a sum of zero", fed(file_of((2, 0, EVEN, AJ))), *["-"] * 6, "A 20231115 000042 6 1 0 0 0 0 0 0 0 0 1 2925 1 2925")
 feed("a sum below zero is told at the L9", fed(file_of((2, 1, AJ, OVER))), *["-"] * 4, *["R 11 5 9"] * 3)
 feed("a batch of each", fed(file_of((1, 10000, CV), (1, 2925, AJ), (2, 8050, CV, DEBIT))), *["-"] * 12,
-     "A 20231115 000042 12 3 2 20000 500 19500 1 2925 1 1950")
+     "A 20231115 000042 12 3 0 0 0 0 2 20000 500 19500 1 2925 1 1950")
 feed("AJ's gross in the sum", fed(file_of((1, 3000, AJ))), *["-"] * 3, *["R 11 4 9"] * 3)
 feed("AJ first", [numbered(AJ, 1), A0, CLOSE], *["R 5 1 0"] * 3)
 feed("AJ behind A0, then the right records", [A0, numbered(AJ, 2), L0, AJ, CLOSE], "-", *["R 5 2 0"] * 4)

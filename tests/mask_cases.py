@@ -1,5 +1,5 @@
 #!/usr/bin/env python3
-"""Our own cases of masked copies, written by hand from document 01 and requests Q-7 and Q-2 of document 02.
+"""Our own cases of masked copies, written by hand from document 01 and requests Q-7, Q-2 and Q-4 of document 02.
 
     tests/mask_cases.py           write the files below
     tests/mask_cases.py --list    and print where in `stdout` each case stands, its name and its answer
@@ -11,11 +11,11 @@ too. There the cases whose output has no room for the file are left out.
 A case is a name, a file, the line that these documents give it, and what the output begins with after the call. All of these are written here by
 hand; only the hash that stands for the output's bytes in a line is computed. No program under test was asked for an answer.
 
-A line is `A date movement records batches sales gross discount net credits creditnet debits debitnet` or `R number record column`, and the hash of the
-whole output.
+A line is `A date movement records batches fsales fgross fdiscount fnet ssales sgross sdiscount snet credits creditnet debits debitnet` (forecast, settled,
+adjustments) or `R number record column`, and the hash of the whole output.
 Behind the line of a file that is cut in two at every place stands how many cuts have the same line: as many as the file has bytes, and one.
 """
-from records import A0, A9, ACCEPTED, ADJUSTED, AJ, CV, DEBIT, FIVE, L0, L9, adjustment, file_of, numbered, put, sale, whole
+from records import A0, A9, ACCEPTED, ADJUSTED, ADVANCED, AHEAD, AJ, CV, DEBIT, FIVE, FORECAST, L0, L9, adjustment, file_of, numbered, put, sale, whole
 from stored import cut_at_every_place, hashed, number, outside, output, read_cases, run, write_cases, write_stdout
 
 # ---- How a file is built -------------------------------------------------------------------------------------------------------------------
@@ -106,20 +106,27 @@ case("the card's digits in other fields stay", whole(NAMED, L0, TOLD, L9, A9), A
 # A record of 75 bytes in which CV stands, but not in front.
 case("CV inside A0's name", whole(put(A0, 29, b"CV"), L0, CV, L9, A9), ACCEPTED,
      whole(put(A0, 29, b"CV"), L0, put(CV, CARD, b"000411111******1111"), L9, A9))
-case("no batch: nothing to mask", whole(A0, b"A9" b"000002" b"000002"), "A 20231115 000042 2 0 0 0 0 0 0 0 0 0", whole(A0, b"A9" b"000002" b"000002"))
+case("no batch: nothing to mask", whole(A0, b"A9" b"000002" b"000002"), "A 20231115 000042 2 0 0 0 0 0 0 0 0 0 0 0 0 0", whole(A0, b"A9" b"000002" b"000002"))
 
 # Several sales, in one batch and in two, each masked by its own card.
 SECOND = numbered(put(CV, CARD, b"1234567890123456789"), 4)
 THIRD = numbered(put(CV, CARD, b"0000000123456789012"), 5)
 case("three sales in a batch", whole(A0, L0, CV, SECOND, THIRD, b"L9" b"000003" b"00000000030000" b"000006", b"A9" b"000007" b"000007"),
-     "A 20231115 000042 7 1 3 30000 750 29250 0 0 0 0",
+     "A 20231115 000042 7 1 0 0 0 0 3 30000 750 29250 0 0 0 0",
      whole(A0, L0, put(CV, CARD, b"000411111******1111"), put(SECOND, CARD, b"123456*********6789"), THIRD,
            b"L9" b"000003" b"00000000030000" b"000006", b"A9" b"000007" b"000007"))
 LATER = numbered(put(CV, CARD, b"0000001234567890123"), 6)
 case("a sale in each of two batches", whole(A0, L0, CV, L9, numbered(L0, 5), LATER, numbered(L9, 7), b"A9" b"000008" b"000008"),
-     "A 20231115 000042 8 2 2 20000 500 19500 0 0 0 0",
+     "A 20231115 000042 8 2 0 0 0 0 2 20000 500 19500 0 0 0 0",
      whole(A0, L0, put(CV, CARD, b"000411111******1111"), L9, numbered(L0, 5), put(LATER, CARD, b"0000001234*****0123"), numbered(L9, 7),
            b"A9" b"000008" b"000008"))
+# A sale is masked whatever its launch type.
+for edition in (2, 1):
+    case(f"a forecast, edition {edition}", sale(AHEAD), FORECAST, sale(put(AHEAD, CARD, b"000411111******1111")), edition=edition)
+case("a forecast, an advanced sale and a normal one", file_of((3, 30000, AHEAD, put(ADVANCED, CARD, b"1234567890123456789"), CV)),
+     "A 20231115 000042 7 1 1 10000 250 9750 2 20000 500 19500 0 0 0 0",
+     file_of((3, 30000, put(AHEAD, CARD, b"000411111******1111"), put(ADVANCED, CARD, b"123456*********6789"), put(CV, CARD, b"000411111******1111"))))
+case("L9 with the settled alone", file_of((2, 10000, AHEAD, CV)), "R 11 5 9")
 case("capture 7 under edition 2", sale(put(CV, 54, b"7")), ACCEPTED, sale(put(put(CV, 54, b"7"), CARD, b"000411111******1111")))
 
 # Adjustments: credits and debits, before and behind sales, each masked by its own card in its own part.
@@ -127,14 +134,14 @@ MASKED_CV = put(CV, CARD, b"000411111******1111")
 CREDIT, MASKED_CREDIT = put(AJ, AJ_CARD, b"0000001234567890123"), put(AJ, AJ_CARD, b"0000001234*****0123")
 TAKEN, MASKED_TAKEN = put(DEBIT, AJ_CARD, b"1234567890123456789"), put(DEBIT, AJ_CARD, b"123456*********6789")
 BLANK = put(AJ, AJ_CARD, b" " * 19)
-case("a sale, a credit and a debit", file_of((3, 10975, CV, CREDIT, TAKEN)), "A 20231115 000042 7 1 1 10000 250 9750 1 2925 1 1950",
+case("a sale, a credit and a debit", file_of((3, 10975, CV, CREDIT, TAKEN)), "A 20231115 000042 7 1 0 0 0 0 1 10000 250 9750 1 2925 1 1950",
      file_of((3, 10975, MASKED_CV, MASKED_CREDIT, MASKED_TAKEN)))
-case("a debit, a credit and a sale", file_of((3, 10975, TAKEN, CREDIT, CV)), "A 20231115 000042 7 1 1 10000 250 9750 1 2925 1 1950",
+case("a debit, a credit and a sale", file_of((3, 10975, TAKEN, CREDIT, CV)), "A 20231115 000042 7 1 0 0 0 0 1 10000 250 9750 1 2925 1 1950",
      file_of((3, 10975, MASKED_TAKEN, MASKED_CREDIT, MASKED_CV)))
-case("a blank card between others", file_of((4, 13900, CV, BLANK, CREDIT, TAKEN)), "A 20231115 000042 8 1 1 10000 250 9750 2 5850 1 1950",
+case("a blank card between others", file_of((4, 13900, CV, BLANK, CREDIT, TAKEN)), "A 20231115 000042 8 1 0 0 0 0 1 10000 250 9750 2 5850 1 1950",
      file_of((4, 13900, MASKED_CV, BLANK, MASKED_CREDIT, MASKED_TAKEN)))
 case("an adjustment in each of two batches", file_of((2, 8050, CV, TAKEN), (1, 2925, CREDIT)),
-     "A 20231115 000042 9 2 1 10000 250 9750 1 2925 1 1950", file_of((2, 8050, MASKED_CV, MASKED_TAKEN), (1, 2925, MASKED_CREDIT)))
+     "A 20231115 000042 9 2 0 0 0 0 1 10000 250 9750 1 2925 1 1950", file_of((2, 8050, MASKED_CV, MASKED_TAKEN), (1, 2925, MASKED_CREDIT)))
 case("AJ, capture 7 under edition 2", adjustment(put(AJ, 75, b"7")), ADJUSTED, adjustment(put(put(AJ, 75, b"7"), AJ_CARD, b"000411111******1111")))
 # Digits stay in every other field of an AJ: store, NSUs, reason, account, brand and product code; and in its description, where a CV has its card.
 TOLD_AJ = AJ

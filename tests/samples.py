@@ -23,16 +23,16 @@ def instalment(number, of, gross, discount):
     return dict(product=b"C", instalment=number, instalments=of, instalment_nsu=number, instalment_gross=gross, instalment_discount=discount)
 
 
-# Payable: 10000 - 250, 25990 - 650; 15000 - 375, 15000 - 375; and a batch of no sale.
+# Payable: 10000 - 250, 25990 - 650; 15000 - 375, and 15000 - 375 of an instalment that is forecast for January; and a batch of no sale.
 DAY = [
     [sale(b"POSTO AURORA", 10000, 250, b"4111111111111111"),
      sale(b"POSTO AURORA", 25990, 650, b"5555555555554444", nsu=2, capture=7)],
     [sale(b"POSTO DO LAGO", 30000, 750, b"4012888888881881", nsu=3, **instalment(1, 2, 15000, 375)),
-     sale(b"POSTO DO LAGO", 30000, 750, b"378282246310005", nsu=4, **instalment(2, 2, 15000, 375))],
+     sale(b"POSTO DO LAGO", 30000, 750, b"378282246310005", nsu=4, launch=0, launch_date=20240115, **instalment(2, 2, 15000, 375))],
     [],
 ]
 
-# Its day sheet: edition 2, 15 November 2023, movement 42, 3 batches, 4 sales, and the totals of what is payable.
+# Its day sheet: edition 2, 15 November 2023, movement 42, 3 batches, 4 sales, forecast or settled, and the totals of what is payable.
 SHEET = b"DSH" + bytes([0, 1, 2]) + b"20231115" b"000042" + b"".join(
     number.to_bytes(width, "big") for number, width in ((3, 4), (4, 4), (65990, 8), (1650, 8), (64340, 8)))
 

@@ -1,5 +1,5 @@
 #!/usr/bin/env python3
-"""Our own cases of day sheets, written by hand from document 01.
+"""Our own cases of day sheets, written by hand from document 01 and request Q-4 of document 02.
 
     tests/sheet_cases.py           write the files below
     tests/sheet_cases.py --list    and print where in `stdout` each case stands, its name and its answer
@@ -17,7 +17,7 @@ an output holds after the call. No program under test was asked for an answer.
 A line of a sheet to read is `A edition date movement batches sales gross discount net` or `R number record column`; of a sheet to write, `A` or
 `R number record column`, and the whole output in hex between brackets; of a file's sheet, the answer of the card file and that output.
 """
-from records import A0, A9, ACCEPTED, ADJUSTED, AJ, CV, DEBIT, FIVE, L0, L9, adjustment, file_of, put, sale, whole
+from records import A0, A9, ACCEPTED, ADJUSTED, ADVANCED, AHEAD, AJ, CV, DEBIT, FIVE, FORECAST, L0, L9, adjustment, file_of, put, sale, whole
 from stored import number, output, run, write_cases, write_stdout
 
 # ---- How a sheet is built ------------------------------------------------------------------------------------------------------------------
@@ -192,7 +192,12 @@ OF_FILE = [
     ("a longer output keeps its rest", 2, 53, FIVE, ACCEPTED, SHEET),
     ("an output twice as long", 2, 104, FIVE, ACCEPTED, SHEET),
     ("the sheet carries the edition stated", 1, 52, FIVE, ACCEPTED, SHEET_OF_EDITION_1),
-    ("adjustments are not on the sheet", 2, 52, file_of((3, 10975, CV, AJ, DEBIT)), "A 20231115 000042 7 1 1 10000 250 9750 1 2925 1 1950", SHEET),
+    ("a forecast is on the sheet", 2, 52, sale(AHEAD), FORECAST, SHEET),
+    # 2 sales, 20000 (4E20), 500 (1F4), 19500 (4C2C)
+    ("both sets are added", 2, 52, file_of((2, 20000, AHEAD, ADVANCED)), "A 20231115 000042 6 1 1 10000 250 9750 1 10000 250 9750 0 0 0 0",
+     hexed(sales="00000002", gross="0000000000004e20", discount="00000000000001f4", net="0000000000004c2c")),
+    ("L9 with the settled alone", 2, 52, file_of((2, 10000, AHEAD, CV)), "R 11 5 9", b""),
+    ("adjustments are not on the sheet", 2, 52, file_of((3, 10975, CV, AJ, DEBIT)), "A 20231115 000042 7 1 0 0 0 0 1 10000 250 9750 1 2925 1 1950", SHEET),
     ("a batch of an adjustment alone", 2, 53, adjustment(AJ), ADJUSTED, hexed(sales="00000000", gross=NOTHING, discount=NOTHING, net=NOTHING)),
     ("accents are not on the sheet", 2, 52, whole(put(A0, 29, b"\xc9"), L0, put(CV, 3, b"\xff" * 15), L9, A9), ACCEPTED, SHEET),
     ("byte 159 in the store", 2, 52, sale(put(CV, 3, b"\x9f")), "R 7 3 3", b""),

@@ -10,7 +10,7 @@ use card_run::stage::Stage;
 use cases::answer;
 use cases::file;
 use cases::print;
-use totals::amounts::Totals;
+use totals::two_sets::TwoSets;
 
 // `: ` and an answer, behind what it is of.
 fn print_answer(of: CardAnswer) {
@@ -56,7 +56,7 @@ fn behind(records: u64) -> Running
         movement: 42,
         records,
         batches: 0,
-        totals: Totals::none(),
+        totals: TwoSets::none(),
         credits: Adjusted::none(),
         debits: Adjusted::none(),
     };

@@ -6,6 +6,7 @@ use mathlib.Core.Bool.{true}
 use native.Mathlib.Omega.{arith}
 use lib.ListN.{length, length-append}
 use Rattle.edition.specs.Known.{known}
+use Rattle.totals.specs.TwoSets.{setsOf}
 use Rattle.totals.proofs.Totals.{figure-of-none}
 use Rattle.card_record.specs.declared.kind.Kind.the-variants.{A0, A9}
 use Rattle.card_run.specs.declared.stage.Stage.the-variants.{Start, BetweenBatches, Ended}
@@ -20,9 +21,10 @@ use Rattle.card_run.specs.Answer.{answerAt, answerOf}
 use Rattle.card_file.specs.CardFile.{endOf, ranOf, checkOf}
 use Rattle.card_kept.specs.Fields.{numberAt}
 use Rattle.card_kept.specs.Records.{A9Kept}
-use Rattle.card_kept.specs.Kept.{File, batchesRecords, recordsOf, FileKept, Kept, transactionsOf, salesOf, creditsOf, debitsOf}
+use Rattle.card_kept.specs.Kept.{File, batchesRecords, recordsOf, FileKept, Kept, transactionsOf, forecastsOf, settledOf, creditsOf, debitsOf}
 use Rattle.card_kept.proofs.PlainTotals.{totalsOf, none-plus}
 use Rattle.card_kept.proofs.Transactions.{adjustedOf, same-adjusted}
+use Rattle.card_kept.proofs.TwoSets.{same-sets}
 use Rattle.card_kept.proofs.PlainSteps.{same-at, after, behindPlain, Small, still-small, step}
 use Rattle.card_kept.proofs.OneLine.{file-cut}
 use Rattle.card_kept.proofs.Batches.{fed-row, lines-are, Comes, comes, lastBatch, batches-taken}
@@ -51,7 +53,7 @@ plainNumbers f =
       movement = numberAt 23 28 (f .a0);
       records = length (recordsOf f);
       batches = length (f .batches);
-      totals = totalsOf (salesOf f);
+      totals = setsOf (totalsOf (forecastsOf f)) (totalsOf (settledOf f));
       credits = adjustedOf (creditsOf f);
       debits = adjustedOf (debitsOf f);
     }
@@ -72,7 +74,8 @@ file-taken e f is-known k =
     let trailer = subst (λ n. A9Kept e n (f .a9)) number (k .a9) in
     let last = step full (f .a9) (batches .small) A9 refl trailer in
     comes
-    (same-at begun refl (omega (arith, length-append (batchesRecords (f .batches)) (f .a9 ∷ []))) (omega arith) (none-plus (totalsOf (salesOf f)))
+    (same-at begun refl (omega (arith, length-append (batchesRecords (f .batches)) (f .a9 ∷ []))) (omega arith)
+    (same-sets (none-plus (totalsOf (forecastsOf f))) (none-plus (totalsOf (settledOf f))))
     (same-adjusted (omega arith) (omega arith)) (same-adjusted (omega arith) (omega arith)) refl)
     (record {
       is =

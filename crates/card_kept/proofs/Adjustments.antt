@@ -3,17 +3,18 @@
 use Prim.Native.Nat.{ℕ, _+_, _^_, _<_}
 use mathlib.Core.Path.{_≡_, refl, sym, _∙_, ap, subst}
 use mathlib.Core.Logic.{_⊎_, inl, inr, ⊎-elim}
-use mathlib.Core.List.{List, [], _∷_}
-use mathlib.Core.Bool.{Bool, true, false, cond, _||_, false≢true}
+use mathlib.Core.List.{List}
+use mathlib.Core.Bool.{Bool, true, false, cond}
 use lib.Dec.{eqb}
 use borrow.Author.Tests.{eq-eqb, eqb-true}
 use Rattle.refusal.specs.Rules.{allHold}
 use Rattle.text.specs.declared.alphabet.Alphabet.the-variants.{Digits as digits}
 use Rattle.text.specs.Alphabet.{allowed, holdsOnly}
-use Rattle.text.specs.Literal.{ascii, hasByte, oneByteOf}
+use Rattle.text.specs.Literal.{ascii}
 use Rattle.text.specs.Number.{valueFrom}
 use Rattle.text.specs.Part.{positions}
 use Rattle.text.proofs.Alphabets.{both-left}
+use Rattle.text.proofs.Literals.{IsOneOf, is-one-of, holds-one}
 use Rattle.card_content.specs.declared.content.ClosedSet.the-variants.{AdjustmentType}
 use Rattle.card_content.specs.declared.content.Content.the-variants.{Digits, OneOf}
 use Rattle.card_content.specs.Content.{inSet}
@@ -31,31 +32,19 @@ pub either-way : (P : Running → Type 0) (credit : Bool) {a b : Running} → P 
 either-way P true of-credit of-debit = of-credit
 either-way P false of-credit of-debit = of-debit
 
--- a byte of the two that a type may be
-one-of-two : (p : List ℕ) → oneByteOf (ascii "12") p ≡ true → (p ≡ ascii "1") ⊎ (p ≡ ascii "2")
-unfolding oneByteOf hasByte
-one-of-two [] e = absurd (false≢true e)
-one-of-two (b ∷ []) e = by (eqb 49 b) (eqb 50 b) refl refl e
-  where
-    by : (one two : Bool) → eqb 49 b ≡ one → eqb 50 b ≡ two → one || (two || false) ≡ true → (b ∷ [] ≡ ascii "1") ⊎ (b ∷ [] ≡ ascii "2")
-    by true two p q e = inl (ap (λ (c : ℕ). c ∷ []) (sym (eqb-true 49 b p)))
-    by false true p q e = inr (ap (λ (c : ℕ). c ∷ []) (sym (eqb-true 50 b q)))
-    by false false p q e = absurd (false≢true e)
-one-of-two (b ∷ c ∷ s) e = absurd (false≢true e)
-
 module _ (e : ℕ) (r : List ℕ) (k : FieldsKept e r ajTable) where
-  the-type : (positions 76 76 r ≡ ascii "1") ⊎ (positions 76 76 r ≡ ascii "2")
+  the-type : IsOneOf (ascii "12") (positions 76 76 r)
   unfolding inSet
-  the-type = one-of-two (positions 76 76 r) (k .1 .1 .1 .1 .1 .1 .1 .1 .1 .1 .0)
+  the-type = is-one-of (ascii "12") (positions 76 76 r) (k .1 .1 .1 .1 .1 .1 .1 .1 .1 .1 .0)
 
   -- it is a credit or a debit
   pub credit-or-debit : (adjustmentType r ≡ 1) ⊎ (adjustmentType r ≡ 2)
   unfolding valueFrom
-  credit-or-debit = ⊎-elim (λ p. inl (ap (valueFrom 0) p)) (λ p. inr (ap (valueFrom 0) p)) the-type
+  credit-or-debit = ⊎-elim (λ p. inl (ap (valueFrom 0) p)) (⊎-elim (λ p. inr (ap (valueFrom 0) p)) (λ none. absurd none)) the-type
 
   type-digits : holdsOnly digits (positions 76 76 r) ≡ true
   unfolding holdsOnly allowed
-  type-digits = ⊎-elim (λ p. ap (holdsOnly digits) p) (λ p. ap (holdsOnly digits) p) the-type
+  type-digits = holds-one digits (ascii "12") (positions 76 76 r) refl the-type
 
 -- the numbers that stand in an AJ
 abbrev pub plainAj : List ℕ → Aj

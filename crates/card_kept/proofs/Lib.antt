@@ -6,6 +6,7 @@ pub mod Next
 pub mod Steps
 pub mod PlainTotals
 pub mod Transactions
+pub mod TwoSets
 pub mod PlainSteps
 pub mod OneLine
 pub mod Batches

@@ -8,9 +8,9 @@ use mathlib.Core.Bool.{true}
 use native.Mathlib.Omega.{arith}
 use borrow.Author.Tests.{eq-eqb, ne-eqb}
 use Rattle.lines.specs.Lines.{noLf}
-use Rattle.totals.specs.declared.amounts.Totals.{Totals}
+use Rattle.totals.specs.declared.two_sets.TwoSets.{TwoSets}
 use Rattle.totals.specs.Sum.{capped}
-use Rattle.totals.specs.Amounts.{noTotals, addedTotals}
+use Rattle.totals.specs.TwoSets.{summed}
 use Rattle.totals.proofs.Totals.{gross, figureOf}
 use Rattle.card_content.specs.declared.content.Content.the-variants.{Digits, Day}
 use Rattle.card_content.specs.Field.{field}
@@ -34,10 +34,10 @@ use Rattle.card_kept.specs.Sale.{payableGross}
 use Rattle.card_kept.specs.Kept.{Transaction, sale, adjustment, sumOver, isSale, isCredit, isDebit, picked}
 use Rattle.card_kept.proofs.FieldsKept.{plain-number}
 use Rattle.card_kept.proofs.Adjustments.{credit-or-debit, plainAj, plain-aj, net-below}
-use Rattle.card_kept.proofs.PlainTotals.{totalsOf, plus, plus-none, plus-plus, sold, sold-alone, sold-row, Within, sold-is, sold-within, more-within, sold-more, none-within, not-capped}
+use Rattle.card_kept.proofs.PlainTotals.{sold-alone, Within, sold-is, sold-within, more-within, none-within}
 use Rattle.card_kept.proofs.Transactions as many
+use Rattle.card_kept.proofs.TwoSets.{withSales, sets-none, sets-row, parted-sale, parted-adjustment, one-sale-more, sets-within}
 use Rattle.card_kept.proofs.Transactions.{
-  picked-row,
   withTransactions,
   same-batch,
   adjustedOf,
@@ -54,11 +54,11 @@ use Rattle.card_kept.proofs.Next.{NextKept, number-small, kept-right, k
 use Rattle.card_kept.proofs.Steps.{Alive, goes-on, went}
 
 -- a state of the same file
-abbrev pub at : Running → Stage → ℕ → ℕ → Totals → Adjusted → Adjusted → OpenBatch → Running
+abbrev pub at : Running → Stage → ℕ → ℕ → TwoSets → Adjusted → Adjusted → OpenBatch → Running
 at st stage records batches totals credits debits batch =
     moved stage (numbersOf (st .numbers .date) (st .numbers .movement) records batches totals credits debits) batch st
 
-pub same-at : (st : Running) {s s' : Stage} {n n' b b' : ℕ} {t t' : Totals} {c c' d d' : Adjusted} {u u' : OpenBatch} →
+pub same-at : (st : Running) {s s' : Stage} {n n' b b' : ℕ} {t t' : TwoSets} {c c' d d' : Adjusted} {u u' : OpenBatch} →
     s ≡ s' → n ≡ n' → b ≡ b' → t ≡ t' → c ≡ c' → d ≡ d' → u ≡ u' → at st s n b t c d u ≡ at st s' n' b' t' c' d' u'
 same-at st p n b t c d u = λ i. at st (p i) (n i) (b i) (t i) (c i) (d i) (u i)
 
@@ -66,7 +66,7 @@ same-at st p n b t c d u = λ i. at st (p i) (n i) (b i) (t i) (c i) (d i) (u i)
 abbrev pub after : Running → Stage → ℕ → ℕ → List Transaction → OpenBatch → Running
 after st stage records batches ts batch =
     at st stage records batches
-    (plus (st .numbers .totals) (totalsOf (picked isSale ts)))
+    (withSales (st .numbers .totals) ts)
     (many.plus (st .numbers .credits) (adjustedOf (picked isCredit ts)))
     (many.plus (st .numbers .debits) (adjustedOf (picked isDebit ts)))
     batch
@@ -81,7 +81,7 @@ pub after-none : (st : Running) (stage : Stage) (records batches : ℕ) (batch :
 unfolding picked sumOver
 after-none st stage records batches batch =
     same-at st refl refl refl
-    (sym (plus-none (st .numbers .totals)))
+    (sym (sets-none (st .numbers .totals)))
     (sym (many.plus-none (st .numbers .credits)))
     (sym (many.plus-none (st .numbers .debits)))
     refl
@@ -90,11 +90,8 @@ after-none st stage records batches batch =
 pub after-row : (st : Running) {s : Stage} {n b : ℕ} (ts us : List Transaction) {u : OpenBatch} →
     after (after st s n b ts u) s n b us u ≡ after st s n b (ts ++ us) u
 after-row st ts us =
-    let rs = picked isSale ts in
-    let ss = picked isSale us in
-    let all = st .numbers .totals in
     same-at st refl refl refl
-    (plus-plus all (totalsOf rs) (totalsOf ss) ∙ ap (plus all) (sym (ap totalsOf (picked-row isSale ts us) ∙ sold-row rs ss)))
+    (sets-row (st .numbers .totals) ts us)
     (adjusted-row isCredit (st .numbers .credits) ts us)
     (adjusted-row isDebit (st .numbers .debits) ts us)
     refl
@@ -122,11 +119,11 @@ behindPlain A9 st r =
 pub record Small (st : Running) : Type 0 where
   pub records : st .numbers .records < 10 ^ 6
   pub batches : st .numbers .batches ≤ st .numbers .records
-  pub totals : Within (st .numbers .records) (st .numbers .totals)
+  pub totals : Within (st .numbers .records) (summed (st .numbers .totals))
   pub credits : AdjustedWithin (st .numbers .records) (st .numbers .credits)
   pub debits : AdjustedWithin (st .numbers .records) (st .numbers .debits)
   -- a record is a sale or a credit, so that what is added of both has that bound too
-  pub added : st .numbers .totals .amounts .gross + st .numbers .credits .net ≤ 10 ^ 11 * st .numbers .records
+  pub added : summed (st .numbers .totals) .amounts .gross + st .numbers .credits .net ≤ 10 ^ 11 * st .numbers .records
   pub batch : BatchWithin (st .numbers .records) (st .batch)
 
 module _ (st : Running) (r : List ℕ) (small : Small st) where
@@ -140,9 +137,7 @@ module _ (st : Running) (r : List ℕ) (small : Small st) where
       let fields = k .kind .fields in
       let is = sold-is (st .edition) r fields in
       let within = sold-within (st .edition) r fields in
-      let all = st .numbers .totals in
-      let totals : addedTotals all _ ≡ plus all (totalsOf (r ∷ [])) =
-      ap (addedTotals all) is ∙ not-capped all (sold r) (small .records) (small .totals) within ∙ ap (plus all) (sym (sold-alone r)) in
+      let totals = one-sale-more (st .edition) r fields (st .numbers .totals) (small .records) (small .totals) in
       let count : capped (st .batch .transactions) 1 ≡ st .batch .transactions + 1 = omega (arith, small .records, small .batch .transactions) in
       let sum : capped (st .batch .added) (payableGross r) ≡ st .batch .added + (payableGross r + 0 + 0) =
       omega (arith, small .records, small .batch .added, within gross) in
@@ -163,7 +158,7 @@ module _ (st : Running) (r : List ℕ) (small : Small st) where
         let sum : capped (st .batch .added) (adjustmentNet r) ≡ st .batch .added + (0 + (adjustmentNet r + 0)) =
         omega (arith, small .records, small .batch .added) in
         rw (eq-eqb _ _ credit, ne-eqb _ _ no-debit)
-        (same-at st refl next-number refl (sym (plus-none (st .numbers .totals))) (one-more (st .numbers .credits) (small .credits))
+        (same-at st refl next-number refl (sym (sets-none (st .numbers .totals))) (one-more (st .numbers .credits) (small .credits))
         (sym (many.plus-none (st .numbers .debits))) (same-batch count sum (omega arith)))
     adjusted-is (inr debit) =
         let no-credit : adjustmentType r ≡ 1 → ⊥ = λ e. omega arith in
@@ -171,7 +166,7 @@ module _ (st : Running) (r : List ℕ) (small : Small st) where
         let sum : capped (st .batch .taken) (adjustmentNet r) ≡ st .batch .taken + (adjustmentNet r + 0) =
         omega (arith, small .records, small .batch .taken) in
         rw (eq-eqb _ _ debit, ne-eqb _ _ no-credit)
-        (same-at st refl next-number refl (sym (plus-none (st .numbers .totals))) (sym (many.plus-none (st .numbers .credits)))
+        (same-at st refl next-number refl (sym (sets-none (st .numbers .totals))) (sym (many.plus-none (st .numbers .credits)))
         (one-more (st .numbers .debits) (small .debits)) (same-batch count (omega arith) sum))
 
   -- and behind every kind
@@ -204,7 +199,7 @@ module _ (st : Running) (r : List ℕ) (small : Small st) where
       record {
         records = n;
         batches = b;
-        totals = more-within (st .numbers .records) (st .numbers .totals) (small .totals);
+        totals = more-within (st .numbers .records) (summed (st .numbers .totals)) (small .totals);
         credits = adjusted-still (small .credits);
         debits = adjusted-still (small .debits);
         added = omega (arith, small .added);
@@ -216,13 +211,14 @@ module _ (st : Running) (r : List ℕ) (small : Small st) where
   unfolding figureOf picked sumOver
   sale-small n k =
       let within = sold-within (st .edition) r (k .kind .fields) in
+      let parted = parted-sale (st .edition) r (k .kind .fields) in
       record {
         records = n;
         batches = omega (arith, small .batches);
-        totals = sold-more (st .numbers .records) (st .numbers .totals) (totalsOf (r ∷ [])) (small .totals) (subst (Within 1) (sym (sold-alone r)) within);
+        totals = sets-within (st .numbers .records) (st .numbers .totals) (sale r) parted (subst (Within 1) (sym (sold-alone r)) within) (small .totals);
         credits = adjusted-more (small .credits) many.none-within;
         debits = adjusted-more (small .debits) many.none-within;
-        added = omega (arith, small .added, within gross);
+        added = omega (arith, small .added, within gross, ap (λ t. t .amounts .gross) parted);
         batch = record {
           transactions = omega (arith, small .batch .transactions);
           added = omega (arith, small .batch .added, within gross);
@@ -241,7 +237,7 @@ module _ (st : Running) (r : List ℕ) (small : Small st) where
       record {
         records = n;
         batches = omega (arith, small .batches);
-        totals = sold-more (st .numbers .records) (st .numbers .totals) noTotals (small .totals) (none-within 1);
+        totals = sets-within (st .numbers .records) (st .numbers .totals) (adjustment r) (parted-adjustment r) (none-within 1) (small .totals);
         credits = adjusted-more (small .credits) credit;
         debits = adjusted-more (small .debits) debit;
         added = omega (arith, small .added, credit .net);

@@ -6,8 +6,8 @@ use mathlib.Core.List.{List, [], _∷_, _++_}
 use native.Mathlib.Omega.{arith}
 use lib.ListN.{length}
 use Rattle.totals.specs.declared.amounts.Totals.{Totals}
-use Rattle.totals.specs.Amounts.{noTotals, oneSale, addedTotals}
-use Rattle.totals.proofs.Totals.{Figure, sales, gross, discount, net, figureOf, by-figure, figure-added, figure-of-none}
+use Rattle.totals.specs.Amounts.{noTotals, oneSale, addedTotals, plus}
+use Rattle.totals.proofs.Totals.{Figure, sales, gross, discount, net, figureOf, by-figure, figure-added, figure-plus, figure-of-none}
 use Rattle.card_sale.specs.Cv.{cvTable, cvOf, payable}
 use Rattle.card_kept.specs.Fields.{FieldsKept}
 use Rattle.card_kept.specs.Sale.{payableGross, payableDiscount, payableNet}
@@ -22,25 +22,7 @@ totalsOf rs =
       amounts = record { gross = sumOver payableGross rs; discount = sumOver payableDiscount rs; net = sumOver payableNet rs };
     }
 
--- totals added as whole numbers
-abbrev pub plus : Totals → Totals → Totals
-plus t u =
-    record {
-      sales = t .sales + u .sales;
-      amounts = record {
-        gross = t .amounts .gross + u .amounts .gross;
-        discount = t .amounts .discount + u .amounts .discount;
-        net = t .amounts .net + u .amounts .net;
-      };
-    }
-
-pub figure-plus : (f : Figure) (t u : Totals) → figureOf f (plus t u) ≡ figureOf f t + figureOf f u
-unfolding figureOf
-figure-plus sales t u = refl
-figure-plus gross t u = refl
-figure-plus discount t u = refl
-figure-plus net t u = refl
-
+-- such totals added
 pub plus-none : (t : Totals) → plus t noTotals ≡ t
 plus-none t = by-figure (λ f. simp (figure-plus, figure-of-none) (omega arith))
 
@@ -49,6 +31,9 @@ none-plus t = by-figure (λ f. simp (figure-plus, figure-of-none) (omega arith))
 
 pub plus-plus : (t u v : Totals) → plus (plus t u) v ≡ plus t (plus u v)
 plus-plus t u v = by-figure (λ f. simp figure-plus (omega arith))
+
+pub plus-crosswise : (t u v w : Totals) → plus (plus t u) (plus v w) ≡ plus (plus t v) (plus u w)
+plus-crosswise t u v w = by-figure (λ f. simp figure-plus (omega arith))
 
 -- one sale, and sales in a row
 abbrev pub sold : List ℕ → Totals
@@ -101,6 +86,10 @@ sold-more n t u h k f = omega (arith, figure-plus f t u, h f, k f)
 
 pub none-within : (n : ℕ) → Within n noTotals
 none-within n f = omega (arith, figure-of-none f)
+
+-- and each of two that are so small together
+pub part-within : (n : ℕ) (t u : Totals) → Within n (plus t u) → Within n t × Within n u
+part-within n t u h = (λ f. omega (arith, figure-plus f t u, h f), λ f. omega (arith, figure-plus f t u, h f))
 
 -- nothing is capped
 pub not-capped : {n : ℕ} (t u : Totals) → n < 10 ^ 6 → Within n t → Within 1 u → addedTotals t u ≡ plus t u

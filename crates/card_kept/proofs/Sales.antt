@@ -1,7 +1,7 @@
--- A sale that keeps its fields: its numbers are those of its digits, its joined rules hold exactly where its amounts and instalments are right,
--- and what is payable of it is below 10^11.
+-- A sale that keeps its fields: its numbers are those of its digits, it is settled exactly where it is not forecast, its joined rules hold exactly where its
+-- amounts and instalments are right, and what is payable of it is below 10^11.
 use Prim.Native.Nat.{ℕ, _+_}
-use mathlib.Core.Path.{_≡_, refl}
+use mathlib.Core.Path.{_≡_, refl, ap}
 use mathlib.Core.Logic.{_⊎_, inl, inr, ⊎-elim}
 use mathlib.Core.List.{List}
 use mathlib.Core.Bool.{Bool, true, false, cond, not, _&&_, _||_, false≢true}
@@ -9,23 +9,48 @@ use native.Mathlib.Omega.{arith}
 use lib.Dec.{leb, eqb}
 use borrow.Author.Tests.{eq-eqb, ne-eqb, eqb-true, le-leb, leb-true}
 use Rattle.refusal.specs.Rules.{allHold}
+use Rattle.text.specs.declared.alphabet.Alphabet.the-variants.{Digits as digits}
+use Rattle.text.specs.Alphabet.{allowed, holdsOnly}
+use Rattle.text.specs.Literal.{ascii}
+use Rattle.text.specs.Number.{valueFrom}
+use Rattle.text.specs.Part.{positions}
 use Rattle.text.proofs.Alphabets.{both-left, both-right}
+use Rattle.text.proofs.Literals.{IsOneOf, is-one-of, holds-one}
 use Rattle.card_content.specs.declared.content.ClosedSet.the-variants.{LaunchType}
 use Rattle.card_content.specs.declared.content.Content.the-variants.{Digits, OneOf}
-use Rattle.card_content.specs.Field.{field, numberIn}
+use Rattle.card_content.specs.Content.{inSet}
+use Rattle.card_content.specs.Field.{field}
 use Rattle.card_sale.specs.declared.cv.Cv.{Cv}
 use Rattle.card_sale.specs.Cv.{cvTable, cvOf, hasInstalment, payable, joinedRules}
 use Rattle.card_sale.proofs.Ranges.{AmountsBelow, cv-below}
 use Rattle.card_kept.specs.Fields.{FieldsKept, numberAt}
 use Rattle.card_kept.specs.Records.{NoInstalment, Instalment}
-use Rattle.card_kept.specs.Sale.{payableGross, payableDiscount, payableNet}
+use Rattle.card_kept.specs.Sale.{launchType, payableGross, payableDiscount, payableNet}
+use Rattle.card_kept.specs.Kept.{sale as the-sale, isForecast, isSettled}
 use Rattle.card_kept.proofs.FieldsKept.{plain-number}
+
+-- its launch type is one of three, of which 0 alone is forecast
+module _ (e : ℕ) (r : List ℕ) (k : FieldsKept e r cvTable) where
+  the-launch-type : IsOneOf (ascii "012") (positions 44 44 r)
+  unfolding inSet
+  the-launch-type = is-one-of (ascii "012") (positions 44 44 r) (k .1 .1 .1 .1 .0)
+
+  launch-type-digits : holdsOnly digits (positions 44 44 r) ≡ true
+  unfolding holdsOnly allowed
+  launch-type-digits = holds-one digits (ascii "012") (positions 44 44 r) refl the-launch-type
+
+  pub is-settled : isSettled (the-sale r) ≡ not (isForecast (the-sale r))
+  unfolding valueFrom
+  is-settled =
+      ⊎-elim (λ p. rw p)
+      (⊎-elim (λ p. rw p) (⊎-elim (λ p. rw p) (λ none. absurd none)))
+      the-launch-type
 
 -- the numbers that stand in a CV, digits being there
 abbrev pub plainCv : List ℕ → Cv
 plainCv r =
     record {
-      «launch_type» = numberIn (field 44 44 (OneOf LaunchType)) r;
+      «launch_type» = launchType r;
       sale = record { gross = numberAt 55 65 r; discount = numberAt 66 76 r; net = numberAt 77 87 r };
       instalment = numberAt 107 108 r;
       instalments = numberAt 109 110 r;
@@ -39,6 +64,7 @@ plain-cv e r k =
     let from8 = k .1 .1 .1 .1 .1 .1 .1 .1 in
     let from12 = from8 .1 .1 .1 .1 in
     let last = from12 .1 .1 .1 .1 .1 .1 .1 .1 .1 .1 .1 .1 in
+    let launch = plain-number (field 44 44 (OneOf LaunchType)) r refl (launch-type-digits e r k) in
     let gross = plain-number (field 55 65 Digits) r refl (from8 .0) in
     let discount = plain-number (field 66 76 Digits) r refl (from8 .1 .0) in
     let net = plain-number (field 77 87 Digits) r refl (from8 .1 .1 .0) in
@@ -50,7 +76,7 @@ plain-cv e r k =
     let net2 = plain-number (field 145 155 Digits) r refl (from12 .1 .1 .1 .1 .1 .0) in
     let nseq = plain-number (field 194 199 Digits) r refl (last .0) in
     λ i. record {
-      «launch_type» = numberIn (field 44 44 (OneOf LaunchType)) r;
+      «launch_type» = launch i;
       sale = record { gross = gross i; discount = discount i; net = net i };
       instalment = one i;
       instalments = of i;

@@ -10,7 +10,22 @@ use Rattle.card_run.specs.declared.batch.OpenBatch.{OpenBatch}
 use Rattle.card_run.specs.Adjusted.{noAdjustment}
 use Rattle.card_kept.specs.Adjustment.{adjustmentNet}
 use Rattle.card_kept.specs.Sale.{payableGross}
-use Rattle.card_kept.specs.Kept.{Transaction, bytesOf, sumOver, isSale, isCredit, isDebit, picked, added, taken}
+use Rattle.card_kept.specs.Kept.{
+  Transaction,
+  bytesOf,
+  Batch,
+  sumOver,
+  isSale,
+  isCredit,
+  isDebit,
+  picked,
+  added,
+  taken,
+  TransactionKept,
+  TransactionsKept,
+  BatchesKept,
+  batchesTransactions,
+}
 
 -- a sum over two rows, and what is picked of them
 sum-row : (amount : List ℕ → ℕ) (rs ss : List (List ℕ)) → sumOver amount (rs ++ ss) ≡ sumOver amount rs + sumOver amount ss
@@ -41,6 +56,20 @@ picked-below test (t ∷ ts) = by (test t) (picked test ts) (picked-below test t
 sum-picked : (amount : List ℕ → ℕ) (test : Transaction → Bool) (ts us : List Transaction) →
     sumOver amount (picked test (ts ++ us)) ≡ sumOver amount (picked test ts) + sumOver amount (picked test us)
 sum-picked amount test ts us = ap (sumOver amount) (picked-row test ts us) ∙ sum-row amount (picked test ts) (picked test us)
+
+-- what holds of no transaction, of each that keeps the rules, and of a row behind another where it holds of both, holds of all transactions of batches that keep them
+module _ (e : ℕ) (P : List Transaction → Type 0) (none : P []) (one : (n : ℕ) (t : Transaction) → TransactionKept e n t → P (t ∷ []))
+    (row : (ts us : List Transaction) → P ts → P us → P (ts ++ us)) where
+  of-transactions : (n : ℕ) (ts : List Transaction) → TransactionsKept e n ts → P ts
+  unfolding TransactionsKept
+  of-transactions n [] k = none
+  of-transactions n (t ∷ ts) (k, ks) = row (t ∷ []) ts (one n t k) (of-transactions (suc n) ts ks)
+
+  pub of-batches : (n : ℕ) (bs : List Batch) → BatchesKept e n bs → P (batchesTransactions bs)
+  unfolding BatchesKept batchesTransactions
+  of-batches n [] k = none
+  of-batches n (b ∷ bs) (k, ks) =
+      row (b .transactions) (batchesTransactions bs) (of-transactions (suc n) (b .transactions) (k .transactions)) (of-batches _ bs ks)
 
 -- what is added and taken of two rows
 pub added-row : (ts us : List Transaction) → added (ts ++ us) ≡ added ts + added us

@@ -2,12 +2,12 @@
 use Prim.Native.Nat.{ℕ, suc, _+_}
 use mathlib.Core.Path.{_≡_}
 use mathlib.Core.List.{List, [], _∷_, _++_, map}
-use mathlib.Core.Bool.{Bool, true, false, cond}
+use mathlib.Core.Bool.{Bool, true, false, cond, _||_}
 use lib.ListN.{length}
 use lib.Dec.{eqb}
 use Rattle.lines.specs.Lines.{joined}
 use Rattle.edition.specs.Known.{known}
-use Rattle.card_kept.specs.Sale.{payableGross}
+use Rattle.card_kept.specs.Sale.{launchType, payableGross}
 use Rattle.card_kept.specs.Adjustment.{adjustmentType, adjustmentNet}
 use Rattle.card_kept.specs.Records.{A0Kept, L0Kept, CvKept, AjKept, L9Kept, A9Kept}
 
@@ -48,10 +48,18 @@ unfoldable pub sumOver : (List ℕ → ℕ) → List (List ℕ) → ℕ
 sumOver amount [] = 0
 sumOver amount (r ∷ rs) = amount r + sumOver amount rs
 
--- which transactions are sales, and which are credits and debits
+-- which transactions are sales, which of them are "forecast (launch type 0) and settled (1 and 2)", and which are credits and debits
 abbrev pub isSale : Transaction → Bool
 isSale (sale r) = true
 isSale (adjustment r) = false
+
+abbrev pub isForecast : Transaction → Bool
+isForecast (sale r) = eqb (launchType r) 0
+isForecast (adjustment r) = false
+
+abbrev pub isSettled : Transaction → Bool
+isSettled (sale r) = eqb (launchType r) 1 || eqb (launchType r) 2
+isSettled (adjustment r) = false
 
 abbrev pub isCredit : Transaction → Bool
 isCredit (sale r) = false
@@ -106,7 +114,7 @@ pub record Kept (edition : ℕ) (bytes : List ℕ) : Type 0 where
   pub keeps : FileKept edition file
   pub is : bytes ≡ joined (recordsOf file)
 
--- the transactions of a file; its sales, its credits and its debits
+-- the transactions of a file; its sales, those that are forecast and those that are settled, its credits and its debits
 unfoldable pub batchesTransactions : List Batch → List Transaction
 batchesTransactions [] = []
 batchesTransactions (b ∷ bs) = b .transactions ++ batchesTransactions bs
@@ -116,6 +124,12 @@ transactionsOf f = batchesTransactions (f .batches)
 
 abbrev pub salesOf : File → List (List ℕ)
 salesOf f = picked isSale (transactionsOf f)
+
+abbrev pub forecastsOf : File → List (List ℕ)
+forecastsOf f = picked isForecast (transactionsOf f)
+
+abbrev pub settledOf : File → List (List ℕ)
+settledOf f = picked isSettled (transactionsOf f)
 
 abbrev pub creditsOf : File → List (List ℕ)
 creditsOf f = picked isCredit (transactionsOf f)

@@ -5,6 +5,10 @@ use mathlib.Core.Bool.{cond, _&&_}
 use lib.Dec.{eqb}
 use Rattle.card_kept.specs.Fields.{numberAt}
 
+-- "launch type 44 (0 forecast, 1 normal, 2 advanced)"
+abbrev pub launchType : List ℕ → ℕ
+launchType r = numberAt 44 44 r
+
 -- "sale gross 55-65, discount 66-76, net 77-87"
 abbrev pub saleGross : List ℕ → ℕ
 saleGross r = numberAt 55 65 r

@@ -1,11 +1,12 @@
--- What is printed of a card file: "seven lines: ACCEPTED, RECORDS 5, BATCHES 1, SALES 1, GROSS 10000, DISCOUNT 250, NET 9750", or "one line:
--- REFUSED 9 RECORD 3 COLUMN 194".
+-- What is printed of a card file: "ACCEPTED, RECORDS 5, BATCHES 1", and by document 02 "SALES, GROSS, DISCOUNT, NET for FORECAST and then for SETTLED, eight lines in place of
+-- four, each led by that word"; or "one line: REFUSED 9 RECORD 3 COLUMN 194".
 use Prim.Native.Nat.{ℕ}
-use mathlib.Core.List.{List, [], _∷_}
+use mathlib.Core.List.{List, [], _∷_, _++_}
 use lib.IntN.{ℤ, pos}
 use Rattle.text.specs.Literal.{ascii}
 use Rattle.wording.specs.Line.{lineOf, refusedLine, joined}
 use Rattle.totals.specs.declared.amounts.Totals.{Totals}
+use Rattle.totals.specs.declared.two_sets.TwoSets.{TwoSets}
 use Rattle.card_run.specs.declared.answer.Accepted.{Accepted as Numbers}
 use Rattle.card_run.specs.declared.answer.CardAnswer.{CardAnswer}
 use Rattle.card_run.specs.declared.answer.CardAnswer.the-variants.{GoingOn, Accepted, Refused}
@@ -13,17 +14,24 @@ use Rattle.program.specs.Sentence.{sentenceOf}
 use Rattle.card_program.specs.declared.outcome.Outcome.{Outcome}
 use Rattle.card_program.specs.declared.outcome.Outcome.the-variants.{Answer, Mistake}
 
--- the lines of the sales and what they come to, which a day sheet has too
-unfoldable pub totalsText : Totals → List ℕ
-totalsText t =
+-- a line that a word leads
+unfoldable pub ledLine : List ℕ → List ℕ → ℕ → List ℕ
+ledLine word name n = word ++ lineOf name n
+
+-- the lines of sales and what they come to, each led by a word; a day sheet has them without one
+unfoldable pub totalsText : List ℕ → Totals → List ℕ
+totalsText word t =
     joined
-    (lineOf (ascii "SALES") (t .sales) ∷ lineOf (ascii "GROSS") (t .amounts .gross) ∷ lineOf (ascii "DISCOUNT") (t .amounts .discount) ∷
-    lineOf (ascii "NET") (t .amounts .net) ∷ [])
+    (ledLine word (ascii "SALES") (t .sales) ∷ ledLine word (ascii "GROSS") (t .amounts .gross) ∷ ledLine word (ascii "DISCOUNT") (t .amounts .discount) ∷
+    ledLine word (ascii "NET") (t .amounts .net) ∷ [])
+
+unfoldable pub setsText : TwoSets → List ℕ
+setsText s = joined (totalsText (ascii "FORECAST ") (s .forecast) ∷ totalsText (ascii "SETTLED ") (s .settled) ∷ [])
 
 unfoldable pub acceptedText : Numbers → List ℕ
 acceptedText a =
     joined
-    (ascii "ACCEPTED\n" ∷ lineOf (ascii "RECORDS") (a .records) ∷ lineOf (ascii "BATCHES") (a .batches) ∷ totalsText (a .totals) ∷ [])
+    (ascii "ACCEPTED\n" ∷ lineOf (ascii "RECORDS") (a .records) ∷ lineOf (ascii "BATCHES") (a .batches) ∷ setsText (a .totals) ∷ [])
 
 -- a file that is going on has no verdict
 abbrev pub verdictText : CardAnswer → List ℕ

@@ -1,7 +1,15 @@
 // What is printed of a card file, as document 01 prints it: put into a buffer, and written by one call.
 ghost use mathlib.Core.Path.{_≡_};
 ghost use Rattle.wording.specs.Put.{Puts};
-ghost use Rattle.card_program.specs.Verdict.{totalsText, acceptedText, verdictText, outcomeText, descriptorOf};
+ghost use Rattle.card_program.specs.Verdict.{
+  ledLine,
+  totalsText,
+  setsText,
+  acceptedText,
+  verdictText,
+  outcomeText,
+  descriptorOf,
+};
 use crate::outcome::Outcome;
 use card_run::answer::Accepted;
 use card_run::answer::CardAnswer;
@@ -12,21 +20,38 @@ use program::mistake;
 use program::mistake::Failed;
 use program::mistake::Mistake;
 use totals::amounts::Totals;
+use totals::two_sets::TwoSets;
 use wording::line;
 use wording::put;
 
 // Room for every text.
-const ROOM: usize = 256;
+const ROOM: usize = 384;
 
-// Each function here puts its text behind the first `at` bytes, and answers how many bytes stand there then. First the lines of the totals.
-pub fn put_totals(totals: Totals, out: &mut [u8], at: usize) -> usize
-    ensures { λ r. ⌜ Puts (totalsText totals) (now (out .entry)) at r (now (out .exit)) ⌝ }
+// Each function here puts its text behind the first `at` bytes, and answers how many bytes stand there then. First a line that a word leads.
+fn put_led(word: &[u8], name: &[u8], number: u64, out: &mut [u8], at: usize) -> usize
+    ensures { λ r. ⌜ Puts (ledLine (now (word .entry)) (now (name .entry)) number) (now (out .entry)) at r (now (out .exit)) ⌝ }
+{
+    let behind_word = put::text(word, out, at);
+    line::line(name, number, out, behind_word)
+}
+
+// The lines of totals, each led by a word.
+pub fn put_totals(word: &[u8], totals: Totals, out: &mut [u8], at: usize) -> usize
+    ensures { λ r. ⌜ Puts (totalsText (now (word .entry)) totals) (now (out .entry)) at r (now (out .exit)) ⌝ }
 {
     let amounts = totals.amounts;
-    let sales = line::line(b"SALES", totals.sales, out, at);
-    let gross = line::line(b"GROSS", amounts.gross, out, sales);
-    let discount = line::line(b"DISCOUNT", amounts.discount, out, gross);
-    line::line(b"NET", amounts.net, out, discount)
+    let sales = put_led(word, b"SALES", totals.sales, out, at);
+    let gross = put_led(word, b"GROSS", amounts.gross, out, sales);
+    let discount = put_led(word, b"DISCOUNT", amounts.discount, out, gross);
+    put_led(word, b"NET", amounts.net, out, discount)
+}
+
+// Of both sets.
+fn put_sets(sets: TwoSets, out: &mut [u8], at: usize) -> usize
+    ensures { λ r. ⌜ Puts (setsText sets) (now (out .entry)) at r (now (out .exit)) ⌝ }
+{
+    let forecast = put_totals(b"FORECAST ", sets.forecast, out, at);
+    put_totals(b"SETTLED ", sets.settled, out, forecast)
 }
 
 fn put_accepted(accepted: Accepted, out: &mut [u8], at: usize) -> usize
@@ -35,7 +60,7 @@ fn put_accepted(accepted: Accepted, out: &mut [u8], at: usize) -> usize
     let word = put::text(b"ACCEPTED\n", out, at);
     let records = line::line(b"RECORDS", accepted.records, out, word);
     let batches = line::line(b"BATCHES", accepted.batches, out, records);
-    put_totals(accepted.totals, out, batches)
+    put_sets(accepted.totals, out, batches)
 }
 
 fn put_verdict(answer: CardAnswer, out: &mut [u8], at: usize) -> usize

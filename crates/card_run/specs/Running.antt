@@ -4,9 +4,9 @@ use mathlib.Core.Bool.{cond}
 use Rattle.refusal.specs.declared.Cause.{Cause}
 use Rattle.refusal.specs.declared.Cause.the-variants.{EditionUnknown, EndsTooEarly, BytesAfterTheEnd}
 use Rattle.refusal.specs.Nowhere.{nowhere}
-use Rattle.totals.specs.declared.amounts.Totals.{Totals}
+use Rattle.totals.specs.declared.two_sets.TwoSets.{TwoSets}
 use Rattle.totals.specs.Sum.{capped}
-use Rattle.totals.specs.Amounts.{noTotals}
+use Rattle.totals.specs.TwoSets.{noSets}
 use Rattle.edition.specs.Known.{known}
 use Rattle.card_run.specs.declared.stage.Stage.{Stage}
 use Rattle.card_run.specs.declared.stage.Stage.the-variants.{Start, BetweenBatches, InBatch, Ended, Closed, Refused}
@@ -22,13 +22,13 @@ abbrev pub openStage : ℕ → Stage
 openStage edition = cond (known edition) Start (Refused (nowhere EditionUnknown))
 
 -- the numbers of a file, in the answer's order
-abbrev pub numbersOf : ℕ → ℕ → ℕ → ℕ → Totals → Adjusted → Adjusted → Accepted
+abbrev pub numbersOf : ℕ → ℕ → ℕ → ℕ → TwoSets → Adjusted → Adjusted → Accepted
 numbersOf date movement records batches totals credits debits =
     record { date = date; movement = movement; records = records; batches = batches; totals = totals; credits = credits; debits = debits }
 
 -- nothing has come
 abbrev pub noNumbers : Accepted
-noNumbers = numbersOf 0 0 0 0 noTotals noAdjustment noAdjustment
+noNumbers = numbersOf 0 0 0 0 noSets noAdjustment noAdjustment
 
 abbrev pub openOf : ℕ → Running
 openOf edition = record { stage = openStage edition; edition = edition; numbers = noNumbers; batch = noTransaction }

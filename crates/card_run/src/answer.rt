@@ -1,7 +1,7 @@
 // The answer of a card file.
 use crate::adjusted::Adjusted;
 use refusal::Refusal;
-use totals::amounts::Totals;
+use totals::two_sets::TwoSets;
 
 // The numbers of an accepted file.
 pub struct Accepted {
@@ -9,7 +9,7 @@ pub struct Accepted {
     pub movement: u64,
     pub records: u64,
     pub batches: u64,
-    pub totals: Totals,
+    pub totals: TwoSets,
     pub credits: Adjusted,
     pub debits: Adjusted,
 }

@@ -17,7 +17,7 @@ use crate::batch::OpenBatch;
 use crate::stage::Stage;
 use refusal::Cause;
 use refusal::Refusal;
-use totals::amounts::Totals;
+use totals::two_sets::TwoSets;
 
 // `numbers` are of the records that have come so far: the answer, once the file is accepted.
 pub struct Running {
@@ -50,7 +50,7 @@ impl Running {
                 movement: 0,
                 records: 0,
                 batches: 0,
-                totals: Totals::none(),
+                totals: TwoSets::none(),
                 credits: Adjusted::none(),
                 debits: Adjusted::none(),
             },

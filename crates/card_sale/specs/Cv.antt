@@ -63,6 +63,10 @@ cvOf r =
       nseq = numberIn (field 194 199 Digits) r;
     }
 
+-- "launch type 44 (0 forecast, 1 normal, 2 advanced)"; no other passes the field's rule, so what is not forecast is settled
+abbrev pub isForecast : Cv → Bool
+isForecast cv = eqb (cv .«launch_type») 0
+
 -- there is an instalment unless "instalment and instalments are both zero"
 abbrev pub hasInstalment : Cv → Bool
 hasInstalment cv = not (eqb (cv .instalment) 0 && eqb (cv .instalments) 0)

@@ -11,6 +11,7 @@ ghost use Rattle.card_sale.specs.Cv.{
   saleAmounts,
   instalmentAmounts,
   cvOf,
+  isForecast,
   hasInstalment,
   instalmentRight,
   payable,
@@ -180,6 +181,13 @@ impl Cv {
             instalment_amounts: Cv::instalment_amounts_of(bytes),
             nseq: Cv::NSEQ.number(bytes),
         }
+    }
+
+    // Whether the sale is forecast, and not settled.
+    pub fn is_forecast(self) -> bool
+        ensures { λ r. ⌜ r ≡ isForecast self ⌝ }
+    {
+        self.launch_type == 0
     }
 
     // Whether the sale is paid in instalments: the two numbers are not both zero.

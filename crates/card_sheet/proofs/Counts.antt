@@ -1,9 +1,10 @@
--- A file has at least as many records as batches, and as sales: each batch gives its own records.
+-- A file has at least as many records as batches, and as transactions that a test picks: each batch gives its own records.
 use Prim.Native.Nat.{_≤_}
 use mathlib.Core.List.{List, [], _∷_, map}
+use mathlib.Core.Bool.{Bool}
 use native.Mathlib.Omega.{arith}
 use lib.ListN.{length, length-append, length-map}
-use Rattle.card_kept.specs.Kept.{bytesOf, Batch, File, batchRecords, batchesRecords, recordsOf, isSale, batchesTransactions, transactionsOf, salesOf}
+use Rattle.card_kept.specs.Kept.{Transaction, bytesOf, Batch, File, batchRecords, batchesRecords, recordsOf, picked, batchesTransactions, transactionsOf}
 use Rattle.card_kept.proofs.Transactions.{picked-below}
 
 batches-counted : (bs : List Batch) → length bs ≤ length (batchesRecords bs)
@@ -28,11 +29,11 @@ transactions-counted (b ∷ bs) =
 pub batches-below : (f : File) → length (f .batches) ≤ length (recordsOf f)
 batches-below f = omega (arith, batches-counted (f .batches), length-append (batchesRecords (f .batches)) (f .a9 ∷ []))
 
-pub sales-below : (f : File) → length (salesOf f) ≤ length (recordsOf f)
-sales-below f =
+pub picked-counted : (test : Transaction → Bool) (f : File) → length (picked test (transactionsOf f)) ≤ length (recordsOf f)
+picked-counted test f =
     omega (
       arith,
-      picked-below isSale (transactionsOf f),
+      picked-below test (transactionsOf f),
       transactions-counted (f .batches),
       length-append (batchesRecords (f .batches)) (f .a9 ∷ []),
     )

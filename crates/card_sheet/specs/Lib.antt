@@ -1,1 +1,2 @@
 pub mod SheetOf
+pub mod PlainSheet

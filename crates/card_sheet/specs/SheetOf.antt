@@ -3,6 +3,7 @@ use Prim.Native.Nat.{ℕ}
 use mathlib.Core.Path.{_≡_}
 use mathlib.Core.List.{List, _++_}
 use lib.ListN.{length, drop}
+use Rattle.totals.specs.TwoSets.{bothSets}
 use Rattle.card_run.specs.declared.answer.Accepted.{Accepted as Numbers}
 use Rattle.card_run.specs.declared.answer.CardAnswer.{CardAnswer}
 use Rattle.card_run.specs.declared.answer.CardAnswer.the-variants.{GoingOn, Accepted, Refused}
@@ -10,10 +11,10 @@ use Rattle.card_file.specs.Room.{answerWithRoom}
 use Rattle.day_sheet.specs.declared.sheet.Sheet.{Sheet}
 use Rattle.day_sheet.specs.Layout.{bytesOf}
 
--- "Its day sheet carries these but records, and the edition"
+-- "Its day sheet carries these but records, and the edition"; version 1 has one set of totals, which is both added
 abbrev pub sheetFrom : ℕ → Numbers → Sheet
 sheetFrom edition a =
-    record { edition = edition; date = a .date; movement = a .movement; batches = a .batches; totals = a .totals }
+    record { edition = edition; date = a .date; movement = a .movement; batches = a .batches; totals = bothSets (a .totals) }
 
 abbrev pub sheetAnswer : ℕ → List ℕ → ℕ → CardAnswer
 sheetAnswer edition file room = answerWithRoom edition file 52 room

@@ -8,17 +8,17 @@ use day_sheet::sheet::Sheet;
 // The bytes of a sheet.
 const WIDTH: usize = 52;
 
-// The sheet of an accepted file: its numbers but the count of records, and the edition.
+// The sheet of an accepted file: its numbers but the count of records, both sets of totals added, and the edition.
 pub fn sheet_from(edition: u64, numbers: Accepted) -> Sheet
     ensures { λ r. ⌜ r ≡ sheetFrom edition numbers ⌝ }
 {
-    let totals = numbers.totals;
+    let sets = numbers.totals;
     Sheet {
         edition,
         date: numbers.date,
         movement: numbers.movement,
         batches: numbers.batches,
-        totals,
+        totals: sets.both(),
     }
 }
 

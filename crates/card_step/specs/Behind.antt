@@ -1,12 +1,14 @@
 -- The state behind a record that keeps the rules. "An accepted file answers: A0 date, movement, records, batches, sales (CV records), and the totals of payable gross,
--- discount and net over all CV"; "Credits and debits each get a count and a total of net of their own, kept apart from sales".
+-- discount and net", in "two sets of totals, forecast (launch type 0) and settled (1 and 2), each with its own count of sales"; "Credits and debits each get a count and a
+-- total of net of their own, kept apart from sales".
 use Prim.Native.Nat.{ℕ}
-use mathlib.Core.Bool.{cond}
+use mathlib.Core.Bool.{Bool, cond}
 use Rattle.totals.specs.declared.amounts.Totals.{Totals}
 use Rattle.totals.specs.Sum.{capped}
-use Rattle.totals.specs.Amounts.{oneSale, addedTotals}
+use Rattle.totals.specs.Amounts.{oneSale}
+use Rattle.totals.specs.TwoSets.{oneSaleMore}
 use Rattle.card_sale.specs.declared.cv.Cv.{Cv}
-use Rattle.card_sale.specs.Cv.{payable}
+use Rattle.card_sale.specs.Cv.{isForecast, payable}
 use Rattle.card_adjustment.specs.declared.aj.Aj.{Aj}
 use Rattle.card_adjustment.specs.Aj.{isCredit}
 use Rattle.card_frame.specs.declared.a0.A0.{A0}
@@ -36,9 +38,10 @@ counted n = numbersOf (n .date) (n .movement) (capped (n .records) 1) (n .batche
 abbrev pub headed : A0 → Accepted → Accepted
 headed r n = numbersOf (r .date) (r .movement) (n .records) (n .batches) (n .totals) (n .credits) (n .debits)
 
--- with one sale more
-abbrev pub sold : Totals → Accepted → Accepted
-sold sale n = numbersOf (n .date) (n .movement) (n .records) (n .batches) (addedTotals (n .totals) sale) (n .credits) (n .debits)
+-- with one sale more, forecast or settled
+abbrev pub sold : Bool → Totals → Accepted → Accepted
+sold forecast sale n =
+    numbersOf (n .date) (n .movement) (n .records) (n .batches) (oneSaleMore forecast sale (n .totals)) (n .credits) (n .debits)
 
 -- with one credit more, of a net
 abbrev pub credited : ℕ → Accepted → Accepted
@@ -59,10 +62,10 @@ behindA0 r st = moved BetweenBatches (headed r (counted (st .numbers))) (st .bat
 abbrev pub behindL0 : Running → Running
 behindL0 st = moved InBatch (counted (st .numbers)) noTransaction st
 
--- one sale more, of what is payable; the batch adds its gross, which L9 names: "A sum is of the payable amount that it names, or of payable net if it names none"
+-- one sale more, of what is payable, in the set of its launch type. "L9 and A9 are checked as before": whichever set it is, the batch adds its gross, which L9 names: "A sum is of the payable amount that it names, or of payable net if it names none"
 abbrev pub behindSale : Cv → Running → Running
 behindSale r st =
-    moved InBatch (sold (oneSale (payable r)) (counted (st .numbers))) (oneAdded (payable r .gross) (st .batch)) st
+    moved InBatch (sold (isForecast r) (oneSale (payable r)) (counted (st .numbers))) (oneAdded (payable r .gross) (st .batch)) st
 
 -- one adjustment more: "An AJ enters a sum of both with its net, a debit subtracted"
 abbrev pub behindAdjustment : Aj → Running → Running

@@ -44,12 +44,12 @@ fn headed(numbers: Accepted, a0: A0) -> Accepted
     next
 }
 
-// With one sale more.
-fn sold(numbers: Accepted, sale: Totals) -> Accepted
-    ensures { λ r. ⌜ r ≡ sold sale numbers ⌝ }
+// With one sale more, forecast or settled.
+fn sold(numbers: Accepted, forecast: bool, sale: Totals) -> Accepted
+    ensures { λ r. ⌜ r ≡ sold forecast sale numbers ⌝ }
 {
-    let all = numbers.totals;
-    let totals_now = all.added(sale);
+    let sets = numbers.totals;
+    let totals_now = sets.one_more(forecast, sale);
     let mut next = numbers;
     next.totals = totals_now;
     next
@@ -112,7 +112,7 @@ fn behind_sale(state: Running, cv: Cv) -> Running
     let batch = state.batch;
     state.moved(
         Stage::InBatch,
-        sold(counted(numbers), Totals::of_sale(payable)),
+        sold(counted(numbers), cv.is_forecast(), Totals::of_sale(payable)),
         batch.with_added(payable.gross),
     )
 }

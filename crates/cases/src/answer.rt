@@ -5,6 +5,7 @@ use card_run::answer::Accepted;
 use card_run::answer::CardAnswer;
 use refusal::Refusal;
 use totals::amounts::Totals;
+use totals::two_sets::TwoSets;
 
 // The digits of a date, AAAAMMDD.
 const DATE_DIGITS: usize = 8;
@@ -35,13 +36,13 @@ pub fn print_refusal(refusal: Refusal) {
     next_number(refusal.column);
 }
 
-// `A date movement records batches sales gross discount net credits creditnet debits debitnet`
+// `A date movement records batches fsales fgross fdiscount fnet ssales sgross sdiscount snet credits creditnet debits debitnet`: forecast, settled, adjustments.
 pub fn print_accepted(accepted: Accepted) {
     print::byte(b'A');
     next_day(accepted.date, accepted.movement);
     next_number(accepted.records);
     next_number(accepted.batches);
-    next_totals(accepted.totals);
+    next_sets(accepted.totals);
     next_adjusted(accepted.credits);
     next_adjusted(accepted.debits);
 }
@@ -53,6 +54,12 @@ pub fn next_totals(totals: Totals) {
     next_number(amounts.gross);
     next_number(amounts.discount);
     next_number(amounts.net);
+}
+
+// Those of both sets.
+fn next_sets(sets: TwoSets) {
+    next_totals(sets.forecast);
+    next_totals(sets.settled);
 }
 
 // A blank before each: the adjustments of one type, and their net.

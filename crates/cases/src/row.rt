@@ -7,13 +7,16 @@ use card_run::answer::CardAnswer;
 use refusal::Refusal;
 
 // How many numbers document 01's row of a card file has.
-pub const CARD_NUMBERS: usize = 15;
+pub const CARD_NUMBERS: usize = 19;
 
 fn accepted_row(accepted: Accepted) -> [u64; CARD_NUMBERS]
     ensures { λ r. ⌜ r ≡ cardNumbers (CardAnswer.Accepted accepted) ⌝ }
 {
-    let totals = accepted.totals;
-    let amounts = totals.amounts;
+    let sets = accepted.totals;
+    let forecast = sets.forecast;
+    let forecast_amounts = forecast.amounts;
+    let settled = sets.settled;
+    let settled_amounts = settled.amounts;
     let credits = accepted.credits;
     let debits = accepted.debits;
     [
@@ -24,10 +27,14 @@ fn accepted_row(accepted: Accepted) -> [u64; CARD_NUMBERS]
         accepted.movement,
         accepted.records,
         accepted.batches,
-        totals.sales,
-        amounts.gross,
-        amounts.discount,
-        amounts.net,
+        forecast.sales,
+        forecast_amounts.gross,
+        forecast_amounts.discount,
+        forecast_amounts.net,
+        settled.sales,
+        settled_amounts.gross,
+        settled_amounts.discount,
+        settled_amounts.net,
         credits.count,
         credits.net,
         debits.count,
@@ -44,6 +51,10 @@ fn refused_row(refusal: Refusal) -> [u64; CARD_NUMBERS]
         number,
         refusal.record,
         refusal.column,
+        0,
+        0,
+        0,
+        0,
         0,
         0,
         0,

@@ -20,6 +20,7 @@ use Rattle.day_sheet.specs.Layout.{bytesOf}
 use Rattle.day_sheet.specs.Reading.{readOf}
 use Rattle.day_sheet.specs.Answer.{readRow}
 use Rattle.card_sheet.specs.SheetOf.{sheetFrom}
+use Rattle.card_sheet.specs.PlainSheet.{plainSheet}
 
 -- a card file
 pub record CardRulesKept : Type 0 where
@@ -42,6 +43,9 @@ pub record SheetThereAndBack : Type 0 where
       (bytesOf (readRow (readOf l) .sheet) ≡ l) × (sheetAllowed (readRow (readOf l) .sheet) ≡ true)
   -- two different allowed sheets have different bytes
   pub different : (s t : Sheet) → sheetAllowed s ≡ true → sheetAllowed t ≡ true → bytesOf s ≡ bytesOf t → s ≡ t
-  -- an accepted file's sheet is allowed, so it is never refused by 17
+  -- an accepted file's sheet carries both sets of totals added: it is document 01's, byte for byte
+  pub both-sets-added : (edition : ℕ) (bytes : List ℕ) (kept : Kept edition bytes) →
+      bytesOf (sheetFrom edition (cardFileRow (checkOf edition bytes) .numbers)) ≡ bytesOf (plainSheet edition (kept .file))
+  -- and it is allowed, so it is never refused by 17
   pub of-a-file : (edition : ℕ) (bytes : List ℕ) → cardFileRow (checkOf edition bytes) .accepted ≡ true →
       sheetAllowed (sheetFrom edition (cardFileRow (checkOf edition bytes) .numbers)) ≡ true

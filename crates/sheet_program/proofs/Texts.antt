@@ -1,7 +1,7 @@
 -- No text of an outcome has more than 256 bytes.
 use Prim.Native.Nat.{ℕ, _+_, _≤_}
 use mathlib.Core.Path.{_≡_}
-use mathlib.Core.List.{List}
+use mathlib.Core.List.{List, []}
 use native.Mathlib.Omega.{arith}
 use lib.ListN.{length, length-append}
 use Rattle.text.specs.Literal.{ascii}
@@ -29,7 +29,7 @@ numbers-short s =
       length-line (ascii "DATE ") 8 (s .date),
       length-line (ascii "MOVEMENT ") 6 (s .movement),
       line-short (ascii "BATCHES") (s .batches),
-      totals-short (s .totals),
+      totals-short [] (s .totals),
     ))
 
 pub outcome-short : (outcome : SheetOutcome) → length (outcomeText outcome) ≤ 256

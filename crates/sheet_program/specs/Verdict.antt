@@ -21,7 +21,7 @@ unfoldable pub numbersText : Sheet → List ℕ
 numbersText s =
     joined
     (lineOf (ascii "EDITION") (s .edition) ∷ digitsLine (ascii "DATE ") 8 (s .date) ∷ digitsLine (ascii "MOVEMENT ") 6 (s .movement) ∷
-    lineOf (ascii "BATCHES") (s .batches) ∷ totalsText (s .totals) ∷ [])
+    lineOf (ascii "BATCHES") (s .batches) ∷ totalsText [] (s .totals) ∷ [])
 
 abbrev pub readText : SheetRead → List ℕ
 readText (Read sheet) = numbersText sheet

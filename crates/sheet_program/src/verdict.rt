@@ -45,7 +45,7 @@ fn put_numbers(sheet: Sheet, out: &mut [u8], at: usize) -> usize
     let date = put_digits(b"DATE ", sheet.date, DATE_DIGITS, out, edition);
     let movement = put_digits(b"MOVEMENT ", sheet.movement, MOVEMENT_DIGITS, out, date);
     let batches = line::line(b"BATCHES", sheet.batches, out, movement);
-    verdict::put_totals(sheet.totals, out, batches)
+    verdict::put_totals(b"", sheet.totals, out, batches)
 }
 
 fn put_read(read: SheetRead, out: &mut [u8], at: usize) -> usize

@@ -1,14 +1,17 @@
--- `sameBytes` says of two lists that they are equal; what one byte of a set does to `hasByte`.
+-- `sameBytes` says of two lists that they are equal; what one byte of a set does to `hasByte`; and which byte it can be.
 use Prim.Native.Nat.{ℕ, _+_, _≤_, _<_}
-use mathlib.Core.Path.{_≡_, refl, sym, ap₂, subst}
+use mathlib.Core.Path.{_≡_, refl, sym, _∙_, ap, ap₂, subst}
+use mathlib.Core.Logic.{_⊎_, inl, inr}
 use mathlib.Core.List.{List, [], _∷_}
-use mathlib.Core.Bool.{Bool, true, false, false≢true}
+use mathlib.Core.Bool.{Bool, true, false, _||_, false≢true}
 use native.Mathlib.Omega.{arith}
 use native.Mathlib.Numerals.{add-one}
 use borrow.Author.Tests.{eq-eqb, ne-eqb, eqb-true}
 use lib.ListN.{length, getD, drop, drop-of-length-le}
 use lib.Seq.{drop-cons}
 use lib.Dec.{eqb}
+use Rattle.text.specs.declared.alphabet.Alphabet.{Alphabet}
+use Rattle.text.specs.Alphabet.{allowed, holdsOnly}
 use Rattle.text.specs.Literal.{sameBytes, hasByte, oneByteOf}
 use Rattle.text.proofs.Alphabets.{both, both-left, both-right}
 
@@ -65,3 +68,30 @@ unfolding oneByteOf
 not-one-byte set [] e = refl
 not-one-byte set (b ∷ []) e = absurd (e refl)
 not-one-byte set (b ∷ c ∷ s) e = refl
+
+-- a part that is one byte of a set: the first of it, or one of the others
+abbrev pub IsOneOf : List ℕ → List ℕ → Type 0
+IsOneOf [] p = ⊥
+IsOneOf (x ∷ set) p = (p ≡ x ∷ []) ⊎ IsOneOf set p
+
+among : (b : ℕ) (set : List ℕ) → hasByte b set ≡ true → IsOneOf set (b ∷ [])
+unfolding hasByte
+among b [] e = false≢true e
+among b (x ∷ set) e = by (eqb x b) refl (among b set) e
+  where
+    by : (here : Bool) → eqb x b ≡ here → (hasByte b set ≡ true → IsOneOf set (b ∷ [])) → here || hasByte b set ≡ true → IsOneOf (x ∷ set) (b ∷ [])
+    by true q others e = inl (ap (λ (c : ℕ). c ∷ []) (sym (eqb-true x b q)))
+    by false q others e = inr (others e)
+
+pub is-one-of : (set p : List ℕ) → oneByteOf set p ≡ true → IsOneOf set p
+unfolding oneByteOf
+is-one-of set [] e = absurd (false≢true e)
+is-one-of set (b ∷ []) e = among b set e
+is-one-of set (b ∷ c ∷ s) e = absurd (false≢true e)
+
+-- so it holds what the set holds
+pub holds-one : (a : Alphabet) (set p : List ℕ) → holdsOnly a set ≡ true → IsOneOf set p → holdsOnly a p ≡ true
+unfolding holdsOnly
+holds-one a [] p h none = absurd none
+holds-one a (x ∷ set) p h (inl e) = ap (holdsOnly a) e ∙ both (both-left (allowed a x) (holdsOnly a set) h) refl
+holds-one a (x ∷ set) p h (inr others) = holds-one a set p (both-right (allowed a x) (holdsOnly a set) h) others

@@ -1,12 +1,13 @@
 -- Laws of adding totals and amounts. Each figure of totals is added by `capped`, and by itself, so totals have its laws, figure by figure;
 -- amounts have them as totals that count no sale.
-use Prim.Native.Nat.{ℕ, _≤_}
+use Prim.Native.Nat.{ℕ, _+_, _≤_}
 use mathlib.Core.Path.{_≡_, refl, ap}
+use native.Mathlib.Omega.{arith}
 use lib.Dec.{lit≤}
 use Rattle.totals.specs.declared.amounts.Amounts.{Amounts}
 use Rattle.totals.specs.declared.amounts.Totals.{Totals}
 use Rattle.totals.specs.Sum.{top, capped}
-use Rattle.totals.specs.Amounts.{noAmounts, addedAmounts, noTotals, addedTotals, AmountsFit, TotalsFit}
+use Rattle.totals.specs.Amounts.{noAmounts, addedAmounts, noTotals, addedTotals, plus, AmountsFit, TotalsFit}
 use Rattle.totals.proofs.Sums as sums
 
 -- the four numbers that totals hold
@@ -31,6 +32,14 @@ figure-added sales t u = refl
 figure-added gross t u = refl
 figure-added discount t u = refl
 figure-added net t u = refl
+
+-- and as a whole number
+pub figure-plus : (f : Figure) (t u : Totals) → figureOf f (plus t u) ≡ figureOf f t + figureOf f u
+unfolding figureOf
+figure-plus sales t u = refl
+figure-plus gross t u = refl
+figure-plus discount t u = refl
+figure-plus net t u = refl
 
 pub figure-of-none : (f : Figure) → figureOf f noTotals ≡ 0
 unfolding figureOf
@@ -63,6 +72,10 @@ added-fit t u =
       sales = sums.at-most-top _ _;
       amounts = record { gross = sums.at-most-top _ _; discount = sums.at-most-top _ _; net = sums.at-most-top _ _ };
     }
+
+-- no loss where every sum has 64 bits
+pub no-loss : (t u : Totals) → ((f : Figure) → figureOf f (plus t u) ≤ top) → addedTotals t u ≡ plus t u
+no-loss t u h = by-figure (λ f. omega (arith, figure-added f t u, figure-plus f t u, h f))
 
 -- amounts as totals that count no sale
 abbrev uncounted : Amounts → Totals

@@ -25,6 +25,18 @@ oneSale a = record { sales = 1; amounts = a }
 abbrev pub addedTotals : Totals → Totals → Totals
 addedTotals t u = record { sales = capped (t .sales) (u .sales); amounts = addedAmounts (t .amounts) (u .amounts) }
 
+-- totals added as whole numbers
+abbrev pub plus : Totals → Totals → Totals
+plus t u =
+    record {
+      sales = t .sales + u .sales;
+      amounts = record {
+        gross = t .amounts .gross + u .amounts .gross;
+        discount = t .amounts .discount + u .amounts .discount;
+        net = t .amounts .net + u .amounts .net;
+      };
+    }
+
 -- each amount has 64 bits
 pub record AmountsFit (a : Amounts) : Type 0 where
   pub gross : a .gross ≤ top

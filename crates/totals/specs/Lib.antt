@@ -1,2 +1,3 @@
 pub mod Sum
 pub mod Amounts
+pub mod TwoSets

@@ -8,7 +8,7 @@ use Rattle.card_program.proofs.verdict.put_totals.Tie as tie
 returns : tie.Need-returns
 unfolding totalsText
 returns c =
-    both (c .before .before .before .before .before .before .before .before .before .before .before .before .before .before .before .before .before .line .ensures) (both (c .before .before .before .before .before .before .before .before .before .before .before .before .line2 .ensures) (both (c .before .before .before .before .before .before .before .line3 .ensures) (last (c .before .before .line4 .ensures))))
+    both (c .before .before .before .before .before .before .before .before .before .before .before .before .before .before .before .before .before .put-led .ensures) (both (c .before .before .before .before .before .before .before .before .before .before .before .before .put-led2 .ensures) (both (c .before .before .before .before .before .before .before .put-led3 .ensures) (last (c .before .before .put-led4 .ensures))))
 
 pub put-totals-spec : {M : Type 1} → statement M
 put-totals-spec =

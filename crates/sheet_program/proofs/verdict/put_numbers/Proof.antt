@@ -8,7 +8,7 @@ use Rattle.sheet_program.proofs.verdict.put_numbers.Tie as tie
 returns : tie.Need-returns
 unfolding numbersText
 returns c =
-    both (c .before .before .before .before .before .before .before .before .before .before .before .before .before .before .before .before .before .before .before .before .before .line .ensures) (both (c .before .before .before .before .before .before .before .before .before .before .before .before .before .before .before .before .put-digits .ensures) (both (c .before .before .before .before .before .before .before .before .before .before .before .put-digits2 .ensures) (both (c .before .before .before .before .before .before .line2 .ensures) (last (c .before .before .put-totals .ensures)))))
+    both (c .before .before .before .before .before .before .before .before .before .before .before .before .before .before .before .before .before .before .before .before .before .before .line .ensures) (both (c .before .before .before .before .before .before .before .before .before .before .before .before .before .before .before .before .before .put-digits .ensures) (both (c .before .before .before .before .before .before .before .before .before .before .before .before .put-digits2 .ensures) (both (c .before .before .before .before .before .before .before .line2 .ensures) (last (c .before .before .put-totals .ensures)))))
 
 pub put-numbers-spec : {M : Type 1} → statement M
 put-numbers-spec =
@@ -22,6 +22,7 @@ put-numbers-spec =
     (λ c κs. search needs)
     (λ c. search needs)
     (λ c κs. tt)
+    (λ c. search needs)
     (λ c κs. tt)
     (λ c. search needs)
     returns)
