@@ -27,7 +27,7 @@ use Rattle.card_file.specs.CardFile.{unendedAt, linesOf, endOf}
 use Rattle.chunks.specs.Unfinished.{clippedWith}
 use Rattle.chunks.specs.Chunks.{heldBefore}
 use Rattle.card_stream.specs.Stream.{behindEnd, withHeld}
-use Rattle.answers.proofs.Observed.{stageRead, answerRead, creditsRead}
+use Rattle.answers.proofs.Observed.{stageRead, answerRead, forecastRead, creditsRead}
 use lib.ListN.{getD}
 use base.Fml.{Lft}
 use Rattle.answers.specs.CardFile.{CardFile}
@@ -39,16 +39,24 @@ card-file κ =
     record {
       took = λ κs a r r' s s' p q. equal p q;
       took-nodded = (refl, told (λ st. stageRead (st .stage)) refl);
-      took-not-added = (refl, told (λ st. st .numbers .totals .amounts .gross) refl);
+      took-not-added = (refl, told (λ st. st .numbers .totals .settled .amounts .gross) refl);
       took-behind-a9 = (refl, told (λ st. stageRead (st .stage)) refl);
+      took-settled = (refl, told (λ st. st .numbers .totals .forecast .sales) refl);
+      took-neither = (refl, told (λ st. st .numbers .totals .forecast .sales) refl);
+      took-both = (refl, told (λ st. st .numbers .totals .settled .sales) refl);
+      took-advanced = (refl, told (λ st. st .numbers .totals .settled .sales) refl);
+      took-instalment = (refl, told (λ st. st .numbers .totals .forecast .amounts .gross) refl);
+      took-not-in-batch = (refl, told (λ st. st .batch .transactions) refl);
       took-gross = (refl, told (λ st. st .batch .added) refl);
-      took-as-sale = (refl, told (λ st. st .numbers .totals .sales) refl);
+      took-as-sale = (refl, told (λ st. st .numbers .totals .settled .sales) refl);
       took-debit-added = (refl, told (λ st. st .batch .added) refl);
       took-below-zero = (refl, told (λ st. stageRead (st .stage)) refl);
       feed = λ κs a r r' s s' p q. equal p q;
       feed-disagreeing = (refl, told (λ st. stageRead (st .stage)) refl);
       feed-l9 = (refl, told (λ st. stageRead (st .stage)) refl);
       feed-refused = (refl, told (λ st. stageRead (st .stage)) refl);
+      feed-both = (refl, told (λ st. stageRead (st .stage)) refl);
+      feed-settled-alone = (refl, told (λ st. stageRead (st .stage)) refl);
       feed-absolute = (refl, told (λ st. stageRead (st .stage)) refl);
       feed-difference = (refl, told (λ st. stageRead (st .stage)) refl);
       take-line = λ κs a r r' s s' p q. equal p q;
@@ -61,6 +69,9 @@ card-file κ =
       check-refused = (refl, told answerRead refl);
       check-count = (refl, told answerRead refl);
       check-one-answer = (refl, told answerRead refl);
+      check-forecast = (refl, told answerRead refl);
+      check-advanced = (refl, told answerRead refl);
+      check-instalment = (refl, told forecastRead refl);
       check-first-record = (refl, told answerRead refl);
       check-258 = (refl, told answerRead refl);
       check-version = (refl, told answerRead refl);

@@ -67,9 +67,12 @@ card-mask κ =
       sheet-from = λ κs a r r' s s' p q. equal p q;
       sheet-edition = (refl, told (λ s. s .edition) refl);
       sheet-records = (refl, told (λ s. s .batches) refl);
+      sheet-settled = (refl, told (λ s. s .totals .sales) refl);
+      sheet-twice = (refl, told (λ s. s .totals .sales) refl);
       sheet-of = λ κs a r r' s s' p q. (equal (p .answers) (q .answers), equal (p .leaves) (q .leaves));
       sheet-of-edition = (record { answers = refl; leaves = refl }, λ p. told (λ s. getD s 5 0) refl (p .leaves));
       sheet-of-past = (record { answers = refl; leaves = refl }, λ p. told (λ s. getD s 52 0) refl (p .leaves));
       sheet-of-refused = (record { answers = refl; leaves = refl }, λ p. told (λ s. getD s 0 0) refl (p .leaves));
       sheet-of-short = (record { answers = refl; leaves = refl }, λ p. told answerRead refl (p .answers));
+      sheet-of-forecast = (record { answers = refl; leaves = refl }, λ p. told (λ s. getD s 27 0) refl (p .leaves));
     }

@@ -53,6 +53,7 @@ card-run =
       answer-early = (refl, told answerRead refl);
       answer-sales = (refl, told answerRead refl);
       answer-refused = (refl, told answerRead refl);
+      answer-forecast = (refl, told answerRead refl);
       is-open = λ κs a r r' s s' p q. equal p q;
       is-open-ended = (refl, told bit refl);
       is-open-start = (refl, told bit refl);

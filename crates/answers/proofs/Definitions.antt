@@ -62,6 +62,12 @@ definitions =
       kept-blank-card = kept-means-kept 2 _ .0 (record { numbers = _; answer = refl });
       kept-absolute = λ kept. told (λ a. bit (isAccepted a)) refl (kept-means-kept 2 _ .1 kept .answer);
       kept-zero = λ kept. told (λ a. bit (isAccepted a)) refl (kept-means-kept 2 _ .1 kept .answer);
+      forecast-0 = (refl, refl);
+      settled-1 = (refl, refl);
+      settled-2 = (refl, refl);
+      adjustment-in-neither = (refl, refl);
+      kept-forecast = kept-means-kept 2 _ .0 (record { numbers = _; answer = refl });
+      kept-settled-alone = λ kept. told (λ a. bit (isAccepted a)) refl (kept-means-kept 2 _ .1 kept .answer);
       kept-payroll = payroll-law.kept-means-kept _ .0 (record { numbers = _; answer = refl });
       kept-z = λ kept. told payrollAnswerRead refl (payroll-law.kept-means-kept _ .1 kept .answer);
       kept-payroll-accent = λ kept. told payrollAnswerRead refl (payroll-law.kept-means-kept _ .1 kept .answer);

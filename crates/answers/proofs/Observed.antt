@@ -160,11 +160,17 @@ refusedRecord Ended = 0
 refusedRecord Closed = 0
 refusedRecord (Refused r) = r .«record»
 
--- an answer: the refusal's number, or the count of sales, past them all
+-- an answer: the refusal's number, or the count of settled sales, past them all
 abbrev pub answerRead : CardAnswer → ℕ
 answerRead GoingOn = 0
-answerRead (Accepted a) = 101 + a .totals .sales
+answerRead (Accepted a) = 101 + a .totals .settled .sales
 answerRead (refused r) = numberOf (r .cause)
+
+-- and what its forecasts come to
+abbrev pub forecastRead : CardAnswer → ℕ
+forecastRead GoingOn = 0
+forecastRead (Accepted a) = a .totals .forecast .amounts .gross
+forecastRead (refused r) = 0
 
 -- and its count of credits
 abbrev pub creditsRead : CardAnswer → ℕ

@@ -51,7 +51,7 @@ use Rattle.day_sheet.proofs.RoundTrip.{read-allowed}
 use Rattle.card_kept.proofs.FirstFault.{edition-first}
 use Rattle.wording.specs.Number.{digitsWithin}
 use Rattle.wording.specs.Line.{wordOf, lineOf, refusedLine}
-use Rattle.card_program.specs.Verdict.{totalsText, acceptedText}
+use Rattle.card_program.specs.Verdict.{ledLine, totalsText, setsText, acceptedText}
 use Rattle.card_program.specs.Outcome.{outcomeAt}
 use Rattle.payroll_program.specs.Outcome.{outcomeAt as payrollOutcomeAt}
 use Rattle.answers.specs.DaySheet.{sheetOf}
@@ -65,7 +65,7 @@ use Rattle.answers.proofs.Observed.{argumentRead, cardOutcomeRead, outc
 disagreeing : (bytes : List ℕ) → madeUp ≡ checkOf 2 bytes → ⊥
 disagreeing bytes e =
     let kept = kept-means-kept 2 bytes .0 (record { numbers = _; answer = sym e }) in
-    told (λ n. n) refl (plain-numbers 2 bytes _ (sym e) kept .agree)
+    told (λ n. n) refl (plain-numbers 2 bytes _ (sym e) kept .settled .agree)
 
 -- under edition 3 no file is accepted
 of-edition-3 : (bytes : List ℕ) → accepted 5 1 oneSale ≡ checkOf 3 bytes → ⊥
@@ -78,10 +78,10 @@ plain : (bytes : List ℕ) (a : PayrollNumbers) (e : accepted-payroll a ≡ payr
 plain bytes a e = payroll.plain-numbers bytes a (sym e) (payroll.kept-means-kept bytes .0 (record { numbers = a; answer = sym e }))
 
 pub programs : (κ : Lft) (fd : ℤ) → Programs κ fd
-unfolding known firstBroken allowed holdsOnly firstStray valueFrom sameBytes hasByte oneByteOf daysIn isDay isTime whenRules wellFormed inFront cut joined endsInCr withoutLast inSet contentRules tableRules recordRules joinedRules kindNamed rightReading judgedAs readFound answerAt joinedAt rulesOf behind behindOrRefused tookAt closedAt unendedAt linesOf endOf numberRules strayAt segmentNamed payrollKindNamed readAs payrollReadFound foundRules dueRules payrollRunRules behindDetailAs payrollBehind payrollBehindOrRefused payrollTookAt payrollLinesOf endedOf endAt inBase valueIn inPlaces fromPlaces totalsAllowed sheetAllowed readNumbers readOf lateAt digitsWithin wordOf lineOf refusedLine totalsText acceptedText outcomeAt payrollOutcomeAt withHeld soFar payrollAnswerAt
+unfolding known firstBroken allowed holdsOnly firstStray valueFrom sameBytes hasByte oneByteOf daysIn isDay isTime whenRules wellFormed inFront cut joined endsInCr withoutLast inSet contentRules tableRules recordRules joinedRules kindNamed rightReading judgedAs readFound answerAt joinedAt rulesOf behind behindOrRefused tookAt closedAt unendedAt linesOf endOf numberRules strayAt segmentNamed payrollKindNamed readAs payrollReadFound foundRules dueRules payrollRunRules behindDetailAs payrollBehind payrollBehindOrRefused payrollTookAt payrollLinesOf endedOf endAt inBase valueIn inPlaces fromPlaces totalsAllowed sheetAllowed readNumbers readOf lateAt digitsWithin wordOf lineOf refusedLine ledLine totalsText setsText acceptedText outcomeAt payrollOutcomeAt withHeld soFar payrollAnswerAt
 programs κ fd =
     record {
-      seven-lines = refl;
+      eleven-lines = refl;
       one-line = refl;
       argument-of = λ κs a r r' s s' p q. equal p q;
       argument-of-long = (refl, told argumentRead refl);

@@ -28,4 +28,15 @@ totals =
       totals-added = λ κs a r r' s s' p q. equal p q;
       totals-added-sales = (refl, told (λ t. t .sales) refl);
       totals-added-last = (refl, told (λ t. t .amounts .gross) refl);
+      no-sets = λ κs a r r' s s' p q. equal p q;
+      no-sets-forecast = (refl, told (λ s. s .forecast .sales) refl);
+      no-sets-settled = (refl, told (λ s. s .settled .sales) refl);
+      one-more = λ κs a r r' s s' p q. equal p q;
+      one-more-settled = (refl, told (λ s. s .settled .sales) refl);
+      one-more-both = (refl, told (λ s. s .settled .sales) refl);
+      one-more-neither = (refl, told (λ s. s .forecast .sales) refl);
+      one-more-forecast = (refl, told (λ s. s .forecast .sales) refl);
+      both = λ κs a r r' s s' p q. equal p q;
+      both-settled = (refl, told (λ t. t .sales) refl);
+      both-forecast = (refl, told (λ t. t .sales) refl);
     }

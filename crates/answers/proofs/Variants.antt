@@ -97,8 +97,13 @@ variants d =
       refused-leaves-alone = λ wrong.
           told (λ s. getD s 0 0) refl (wrong 2 cardFile (replicate (length cardFile) 0) _ _ (record { answers = refl; leaves = refl }));
       card-rules-kept = λ wrong. false≢true (wrong 3 cardFile .1 (d .card-rules-kept .exactly 2 cardFile .0 refl));
+      card-numbers = λ wrong.
+          let file = fileOf (at 44 "0" sale) in
+          let kept = d .card-rules-kept .exactly 2 file .0 refl in
+          told (λ n. n) refl (wrong 2 file kept .count ∙ sym (d .card-rules-kept .numbers 2 file kept .both .count));
       payroll-rules-kept = λ wrong. false≢true (d .payroll-rules-kept .exactly (payrollFile ++ (26 ∷ [])) .1 (wrong payrollFile .0 refl));
       sheet-there-and-back = λ wrong. told (λ row. row .refusal .number) refl (wrong (sheetOf 3 9750));
+      both-sets-added = λ wrong. told (λ t. t .sales) refl (wrong 2 (fileOf (at 44 "0" sale)) refl);
       fed-as-whole = λ wrong. told (λ row. row .refusal .number) refl (wrong 2 (ascii "A0\n" ∷ []) .closed);
       refused-for-good = λ wrong. told (λ row. row .refusal .number) refl (wrong (openOf 2) (refusal SequenceWrong 3 194) []);
       bad-edition = λ wrong. told (λ row. row .refusal .number) refl (wrong 2 []);

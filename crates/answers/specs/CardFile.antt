@@ -17,6 +17,7 @@ use Rattle.refusal.specs.declared.Cause.the-variants.{
   EndsTooEarly,
   BytesAfterTheEnd,
 }
+use Rattle.totals.specs.TwoSets.{setsOf}
 use Rattle.chunks.specs.Unfinished.{holding}
 use Rattle.chunks.specs.declared.Unfinished.{Unfinished}
 use Rattle.card_run.specs.declared.stage.Stage.the-variants.{Start, BetweenBatches, InBatch, Ended, Closed, Refused}
@@ -24,8 +25,8 @@ use Rattle.card_run.specs.declared.running.Running.{Running}
 use Rattle.card_run.specs.declared.answer.CardAnswer.the-variants.{GoingOn, Accepted, Refused as refused}
 use Rattle.card_stream.specs.declared.Stream.{Stream}
 use Rattle.card_record.specs.declared.reading.Reading.the-variants.{Cv as saleRead, Aj as adjustmentRead}
-use Rattle.answers.specs.Totals.{amounts, totalsOf}
-use Rattle.answers.specs.CardSale.{cashSale}
+use Rattle.answers.specs.Totals.{amounts, settled, forecast}
+use Rattle.answers.specs.CardSale.{saleAs, cashAs, cashSale}
 use Rattle.answers.specs.CardAdjustment.{oneCredit, oneDebit}
 use Rattle.answers.specs.CardRun.{
   adjusted,
@@ -38,6 +39,7 @@ use Rattle.answers.specs.CardRun.{
   refusal,
   noSale,
   oneSale,
+  oneForecast,
   accepted,
   opened,
 }
@@ -74,9 +76,17 @@ pub record CardFile (κ : Lft) : Type 0 where
   pub took-nodded : Tells (Took.Post tt) (state InBatch 3 oneSale, (saleRead cashSale, tt)) (state (Refused (refusal SequenceWrong 4 194)) 3 oneSale) (state InBatch 4 oneSale)
   pub took-not-added : Tells (Took.Post tt) (state InBatch 2 noSale, (saleRead cashSale, tt)) (state InBatch 3 oneSale) (state InBatch 3 noSale)
   pub took-behind-a9 : Tells (Took.Post tt) (state Ended 2 noSale, (saleRead cashSale, tt)) (state (Refused (refusal BytesAfterTheEnd 3 0)) 2 noSale) (state InBatch 3 oneSale)
+  -- a forecast among the settled, in neither set, in both; launch type 2 among the forecasts; the sale's amounts of a forecast where the instalment's are payable; a
+  -- forecast that the batch does not add
+  pub took-settled : Tells (Took.Post tt) (state InBatch 2 noSale, (saleRead (cashAs 0), tt)) (state InBatch 3 oneForecast) (state InBatch 3 oneSale)
+  pub took-neither : Tells (Took.Post tt) (state InBatch 2 noSale, (saleRead (cashAs 0), tt)) (state InBatch 3 oneForecast) (inBatchWith 3 noSale (adjusted 0 0) (adjusted 0 0) (batch 1 10000))
+  pub took-both : Tells (Took.Post tt) (state InBatch 2 noSale, (saleRead (cashAs 0), tt)) (state InBatch 3 oneForecast) (inBatchWith 3 (setsOf (oneForecast .forecast) (oneSale .settled)) (adjusted 0 0) (adjusted 0 0) (batch 1 10000))
+  pub took-advanced : Tells (Took.Post tt) (state InBatch 2 noSale, (saleRead (cashAs 2), tt)) (state InBatch 3 oneSale) (state InBatch 3 oneForecast)
+  pub took-instalment : Tells (Took.Post tt) (state InBatch 2 noSale, (saleRead (saleAs 0 (amounts 9 3 6) 2 3 (amounts 3 1 2)), tt)) (state InBatch 3 (forecast 1 (amounts 3 1 2))) (state InBatch 3 (forecast 1 (amounts 9 3 6)))
+  pub took-not-in-batch : Tells (Took.Post tt) (state InBatch 2 noSale, (saleRead (cashAs 0), tt)) (state InBatch 3 oneForecast) (inBatchWith 3 oneForecast (adjusted 0 0) (adjusted 0 0) (batch 0 0))
   -- an adjustment: its gross in the batch's sum; counted among the sales; a debit added; refused where the sum is below zero on the way
   pub took-gross : Tells (Took.Post tt) (state InBatch 2 noSale, (adjustmentRead oneCredit, tt)) (inBatchWith 3 noSale (adjusted 1 975) (adjusted 0 0) (batch 1 975)) (inBatchWith 3 noSale (adjusted 1 975) (adjusted 0 0) (batch 1 1000))
-  pub took-as-sale : Tells (Took.Post tt) (state InBatch 2 noSale, (adjustmentRead oneCredit, tt)) (inBatchWith 3 noSale (adjusted 1 975) (adjusted 0 0) (batch 1 975)) (inBatchWith 3 (totalsOf 1 (amounts 1000 25 975)) (adjusted 1 975) (adjusted 0 0) (batch 1 975))
+  pub took-as-sale : Tells (Took.Post tt) (state InBatch 2 noSale, (adjustmentRead oneCredit, tt)) (inBatchWith 3 noSale (adjusted 1 975) (adjusted 0 0) (batch 1 975)) (inBatchWith 3 (settled 1 (amounts 1000 25 975)) (adjusted 1 975) (adjusted 0 0) (batch 1 975))
   pub took-debit-added : Tells (Took.Post tt) (state InBatch 2 noSale, (adjustmentRead oneDebit, tt)) (inBatchWith 3 noSale (adjusted 0 0) (adjusted 1 975) (batchOf 1 0 975)) (inBatchWith 3 noSale (adjusted 0 0) (adjusted 1 975) (batch 1 975))
   pub took-below-zero : Tells (Took.Post tt) (state InBatch 2 noSale, (adjustmentRead oneDebit, tt)) (inBatchWith 3 noSale (adjusted 0 0) (adjusted 1 975) (batchOf 1 0 975)) (state (Refused (refusal TrailerDisagrees 3 132)) 2 noSale)
   -- `feed`: a sale whose amounts disagree added; L9's sum not compared; a refused state that goes on
@@ -84,6 +94,9 @@ pub record CardFile (κ : Lft) : Type 0 where
   pub feed-disagreeing : Tells (Feed.Post (one κ)) (state InBatch 2 noSale, (lent (at 77 "00000009751" sale), tt)) (state (Refused (refusal AmountsDisagree 3 77)) 2 noSale) (state InBatch 3 oneSale)
   pub feed-l9 : Tells (Feed.Post (one κ)) (state InBatch 3 oneSale, (lent (at 9 "00000000009750" l9), tt)) (state (Refused (refusal TrailerDisagrees 4 9)) 3 oneSale) (record { stage = BetweenBatches; edition = 2; numbers = numbers 4 1 oneSale; batch = batch 1 10000 })
   pub feed-refused : Tells (Feed.Post (one κ)) (state (Refused (refusal KindUnknown 2 1)) 2 noSale, (lent sale, tt)) (state (Refused (refusal KindUnknown 2 1)) 2 noSale) (state InBatch 3 oneSale)
+  -- a trailer of a batch with a forecast, checked against the settled alone: refused where it covers both, and taken where it covers no more than those
+  pub feed-both : Tells (Feed.Post (one κ)) (state InBatch 3 oneForecast, (lent l9, tt)) (record { stage = BetweenBatches; edition = 2; numbers = numbers 4 1 oneForecast; batch = batch 1 10000 }) (state (Refused (refusal TrailerDisagrees 4 3)) 3 oneForecast)
+  pub feed-settled-alone : Tells (Feed.Post (one κ)) (state InBatch 3 oneForecast, (lent (at 3 "00000000000000000000" l9), tt)) (state (Refused (refusal TrailerDisagrees 4 3)) 3 oneForecast) (record { stage = BetweenBatches; edition = 2; numbers = numbers 4 1 oneForecast; batch = batch 1 10000 })
   -- a trailer that says the absolute value of a sum below zero taken; one that says what is left of the sum refused
   pub feed-absolute :
       Tells (Feed.Post (one κ)) (inBatchWith 3 noSale (adjusted 0 0) (adjusted 1 975) (batchOf 1 0 975), (lent (at 9 "00000000000975" l9), tt))
@@ -104,8 +117,12 @@ pub record CardFile (κ : Lft) : Type 0 where
   -- `check`: every file refused; a made-up count; one accepted answer for all files
   pub check : OneAnswer Check.Post
   pub check-refused : Tells (Check.Post (one κ)) (2, (lent cardFile, tt)) (accepted 5 1 oneSale) (refused (refusal EndsTooEarly 6 0))
-  pub check-count : Tells (Check.Post (one κ)) (2, (lent cardFile, tt)) (accepted 5 1 oneSale) (accepted 5 1 (totalsOf 2 (amounts 10000 250 9750)))
+  pub check-count : Tells (Check.Post (one κ)) (2, (lent cardFile, tt)) (accepted 5 1 oneSale) (accepted 5 1 (settled 2 (amounts 10000 250 9750)))
   pub check-one-answer : Tells (Check.Post (one κ)) (2, (lent [], tt)) (refused (refusal EndsTooEarly 1 0)) (accepted 5 1 oneSale)
+  -- a forecast told as settled; launch type 2 told as forecast; the sale's amounts where a forecast of an instalment is payable
+  pub check-forecast : Tells (Check.Post (one κ)) (2, (lent (fileOf (at 44 "0" sale)), tt)) (accepted 5 1 oneForecast) (accepted 5 1 oneSale)
+  pub check-advanced : Tells (Check.Post (one κ)) (2, (lent (fileOf (at 44 "2" sale)), tt)) (accepted 5 1 oneSale) (accepted 5 1 oneForecast)
+  pub check-instalment : Tells (Check.Post (one κ)) (2, (lent (joined (a0 ∷ l0 ∷ at 44 "0" (at 107 "0102" (at 123 "000000040000000000010000000003900" sale)) ∷ at 9 "00000000004000" l9 ∷ a9 ∷ [])), tt)) (accepted 5 1 (forecast 1 (amounts 4000 100 3900))) (accepted 5 1 oneForecast)
   -- a look at the first record alone; an edition cut down to a byte; the edition by the version string; what stands behind A9 passed over
   pub check-first-record : Tells (Check.Post (one κ)) (2, (lent (fileOf (at 194 "000004" sale)), tt)) (refused (refusal SequenceWrong 3 194)) (accepted 5 1 oneSale)
   pub check-258 : Tells (Check.Post (one κ)) (258, (lent cardFile, tt)) (refused (refusal EditionUnknown 0 0)) (accepted 5 1 oneSale)

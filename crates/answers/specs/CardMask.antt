@@ -9,7 +9,10 @@ use Rattle.card_run.specs.declared.answer.CardAnswer.the-variants.{Refused}
 use Rattle.sale_field.specs.declared.FieldAnswer.the-variants.{Offered, Refused as notOffered}
 use Rattle.day_sheet.specs.declared.sheet.Sheet.{Sheet}
 use Rattle.day_sheet.specs.Layout.{bytesOf}
-use Rattle.answers.specs.CardRun.{numbers as numbersOf, refusal, oneSale, accepted}
+use Rattle.totals.specs.declared.amounts.Totals.{Totals}
+use Rattle.totals.specs.TwoSets.{setsOf}
+use Rattle.answers.specs.Totals.{amounts, totalsOf}
+use Rattle.answers.specs.CardRun.{numbers as numbersOf, refusal, oneSale, oneForecast, accepted}
 use Rattle.demands.specs.ExampleFile.{fileOf}
 use Rattle.answers.specs.Samples.{at, sale, credit, cardFile, room, blankCard}
 use Rattle.card_run.specs.declared.answer.Accepted.{Accepted}
@@ -26,13 +29,23 @@ use Rattle.answers.specs.Held.{OneAnswer, OnePart, OneOutcome, Tells, Te
 abbrev maskedSale : List ℕ
 maskedSale = at 88 "000123456******3456" sale
 
--- the example's day sheet under an edition
+-- a day sheet under an edition with these totals, and the example's
+abbrev sheetWith : ℕ → Totals → Sheet
+sheetWith edition totals = record { edition = edition; date = 20240229; movement = 1; batches = 1; totals = totals }
+
 abbrev daySheet : ℕ → Sheet
-daySheet edition = record { edition = edition; date = 20240229; movement = 1; batches = 1; totals = oneSale }
+daySheet edition = sheetWith edition (totalsOf 1 (amounts 10000 250 9750))
 
 -- the example's numbers
 abbrev numbers : Accepted
 numbers = numbersOf 5 1 oneSale
+
+-- with its sale as forecast and when paid, and the sheet of that
+abbrev numbersOfTwo : Accepted
+numbersOfTwo = numbersOf 6 1 (setsOf (oneForecast .forecast) (oneSale .settled))
+
+abbrev sheetOfTwo : Sheet
+sheetOfTwo = sheetWith 2 (totalsOf 2 (amounts 20000 500 19500))
 
 pub record CardMask (κ : Lft) : Type 0 where
   -- `mask_lines`: the unfinished record counted; nothing masked
@@ -87,11 +100,13 @@ pub record CardMask (κ : Lft) : Type 0 where
   pub field-is-card : Tells (Field.Post (one κ)) (lent sale, (13, tt)) (part 0 []) (part 87 (ascii "0001234567890123456"))
   pub field-behind : Tells (Field.Post (one κ)) (lent sale, (12, tt)) (part 76 (ascii "00000009750")) (part 87 (ascii "0001234567890123456"))
   pub field-elsewhere : Tells (Field.Post (one κ)) (lent sale, (14, tt)) (part 106 (ascii "00")) (part 108 (ascii "00"))
-  -- `sheet_from`: always edition 2; the records for the batches
+  -- `sheet_from`: always edition 2; the records for the batches; the settled alone, and a forecast added twice
   pub sheet-from : OneAnswer SheetFrom.Post
   pub sheet-edition : Tells (SheetFrom.Post tt) (1, (numbers, tt)) (daySheet 1) (daySheet 2)
-  pub sheet-records : Tells (SheetFrom.Post tt) (2, (numbers, tt)) (daySheet 2) (record { edition = 2; date = 20240229; movement = 1; batches = 5; totals = oneSale })
-  -- `sheet_of`: another edition in the sheet; a byte past 52 changed; a refused file's output written; 51 bytes enough
+  pub sheet-records : Tells (SheetFrom.Post tt) (2, (numbers, tt)) (daySheet 2) (record { edition = 2; date = 20240229; movement = 1; batches = 5; totals = totalsOf 1 (amounts 10000 250 9750) })
+  pub sheet-settled : Tells (SheetFrom.Post tt) (2, (numbersOfTwo, tt)) sheetOfTwo (daySheet 2)
+  pub sheet-twice : Tells (SheetFrom.Post tt) (2, (numbersOfTwo, tt)) sheetOfTwo (sheetWith 2 (totalsOf 3 (amounts 30000 750 29250)))
+  -- `sheet_of`: another edition in the sheet; a byte past 52 changed; a refused file's output written; 51 bytes enough; the forecasts left out
   pub sheet-of : OneOutcome (λ κs s. now (s .1 .1 .0)) SheetOf.Post
   pub sheet-of-edition :
       TellsOutcome (SheetOf.Post (two κ)) (1, (lent cardFile, (lent (room 52), tt)))
@@ -109,3 +124,7 @@ pub record CardMask (κ : Lft) : Type 0 where
       TellsOutcome (SheetOf.Post (two κ)) (2, (lent cardFile, (lent (room 51), tt)))
       (record { answer = Refused (refusal OutputTooShort 0 0); exit = (2, (lent cardFile, (lent (room 51), tt))) })
       (record { answer = accepted 5 1 oneSale; exit = (2, (lent cardFile, (lent (room 51), tt))) })
+  pub sheet-of-forecast :
+      TellsOutcome (SheetOf.Post (two κ)) (2, (lent (fileOf (at 44 "0" sale)), (lent (room 52), tt)))
+      (record { answer = accepted 5 1 oneForecast; exit = (2, (lent (fileOf (at 44 "0" sale)), (lent (bytesOf (daySheet 2)), tt))) })
+      (record { answer = accepted 5 1 oneForecast; exit = (2, (lent (fileOf (at 44 "0" sale)), (lent (bytesOf (sheetWith 2 (totalsOf 0 (amounts 0 0 0)))), tt))) })

@@ -2,7 +2,8 @@
 use Prim.Native.Nat.{ℕ}
 use Rattle.refusal.specs.declared.Cause.{Cause}
 use Rattle.refusal.specs.declared.Refusal.{Refusal}
-use Rattle.totals.specs.declared.amounts.Totals.{Totals}
+use Rattle.totals.specs.declared.two_sets.TwoSets.{TwoSets}
+use Rattle.totals.specs.TwoSets.{summed}
 use Rattle.card_run.specs.declared.stage.Stage.{Stage}
 use Rattle.card_run.specs.declared.running.Running.{Running}
 use Rattle.card_run.specs.declared.answer.Accepted.{Accepted as Numbers}
@@ -15,7 +16,7 @@ use Rattle.card_record.specs.declared.kind.Kind.the-variants.{A0, Cv, Aj, L9}
 use Rattle.card_run.specs.declared.stage.Stage.the-variants.{Start, BetweenBatches, InBatch, Ended, Closed, Refused}
 use Rattle.card_run.specs.declared.answer.CardAnswer.the-variants.{GoingOn, Accepted, Refused as refused}
 use Rattle.card_run.specs.Running.{numbersOf}
-use Rattle.answers.specs.Totals.{amounts, totalsOf}
+use Rattle.answers.specs.Totals.{amounts, settled, forecast}
 use Rattle.card_run.proofs.running.Running.open.Reads as Open
 use Rattle.card_run.proofs.running.Running.refused.Reads as RefusedAt
 use Rattle.card_run.proofs.running.Running.next_number.Reads as NextNumber
@@ -38,10 +39,10 @@ abbrev pub adjusted : ℕ → ℕ → Adjusted
 adjusted count net = record { count = count; net = net }
 
 -- the numbers of a file of so many records and batches with these totals and adjustments, and without adjustments
-abbrev pub numbersWith : ℕ → ℕ → Totals → Adjusted → Adjusted → Numbers
+abbrev pub numbersWith : ℕ → ℕ → TwoSets → Adjusted → Adjusted → Numbers
 numbersWith = numbersOf 20240229 1
 
-abbrev pub numbers : ℕ → ℕ → Totals → Numbers
+abbrev pub numbers : ℕ → ℕ → TwoSets → Numbers
 numbers records batches totals = numbersWith records batches totals (adjusted 0 0) (adjusted 0 0)
 
 -- an open batch, and one of which nothing is taken
@@ -51,13 +52,13 @@ batchOf transactions added taken = record { transactions = transactions; added =
 abbrev pub batch : ℕ → ℕ → OpenBatch
 batch transactions added = batchOf transactions added 0
 
--- a state of edition 2 at a stage, behind so many records, whose sales come to these totals, all of the open batch
-abbrev pub state : Stage → ℕ → Totals → Running
+-- a state of edition 2 at a stage, behind so many records, whose sales come to these totals, all of the open batch, forecast and settled
+abbrev pub state : Stage → ℕ → TwoSets → Running
 state stage records totals =
-    record { stage = stage; edition = 2; numbers = numbers records 0 totals; batch = batch (totals .sales) (totals .amounts .gross) }
+    record { stage = stage; edition = 2; numbers = numbers records 0 totals; batch = batch (summed totals .sales) (summed totals .amounts .gross) }
 
 -- a state of edition 2 in a batch, behind so many records, with these totals, adjustments and open batch
-abbrev pub inBatchWith : ℕ → Totals → Adjusted → Adjusted → OpenBatch → Running
+abbrev pub inBatchWith : ℕ → TwoSets → Adjusted → Adjusted → OpenBatch → Running
 inBatchWith records totals credits debits open-batch =
     record { stage = InBatch; edition = 2; numbers = numbersWith records 0 totals credits debits; batch = open-batch }
 
@@ -65,15 +66,18 @@ inBatchWith records totals credits debits open-batch =
 abbrev pub refusal : Cause → ℕ → ℕ → Refusal
 refusal cause number column = record { cause = cause; «record» = number; column = column }
 
--- before a batch is open, and in one without a sale and with document 01's
-abbrev pub noSale : Totals
-noSale = totalsOf 0 (amounts 0 0 0)
+-- before a batch is open, and in one without a sale and with document 01's; and with that as a forecast
+abbrev pub noSale : TwoSets
+noSale = settled 0 (amounts 0 0 0)
 
-abbrev pub oneSale : Totals
-oneSale = totalsOf 1 (amounts 10000 250 9750)
+abbrev pub oneSale : TwoSets
+oneSale = settled 1 (amounts 10000 250 9750)
+
+abbrev pub oneForecast : TwoSets
+oneForecast = forecast 1 (amounts 10000 250 9750)
 
 -- an accepted file of so many records and batches with these totals
-abbrev pub accepted : ℕ → ℕ → Totals → CardAnswer
+abbrev pub accepted : ℕ → ℕ → TwoSets → CardAnswer
 accepted records batches totals = Accepted (numbers records batches totals)
 
 -- a file of an edition of which nothing has come
@@ -135,11 +139,12 @@ pub record CardRun : Type 0 where
   pub close : OneAnswer Close.Post
   pub close-in-batch : Tells (Close.Post tt) (state InBatch 3 oneSale, tt) (state (Refused (refusal EndsTooEarly 4 0)) 3 oneSale) (state Closed 3 oneSale)
   pub close-again : Tells (Close.Post tt) (state Closed 5 oneSale, tt) (state Closed 5 oneSale) (state (Refused (refusal EndsTooEarly 6 0)) 5 oneSale)
-  -- `Running::answer`: accepted before the close; the records counted as sales; a refused file's totals told
+  -- `Running::answer`: accepted before the close; the records counted as sales; a refused file's totals told; a forecast told as settled
   pub answer : OneAnswer Answer.Post
   pub answer-early : Tells (Answer.Post tt) (state Ended 5 oneSale, tt) GoingOn (accepted 5 0 oneSale)
-  pub answer-sales : Tells (Answer.Post tt) (state Closed 5 oneSale, tt) (accepted 5 0 oneSale) (accepted 5 0 (totalsOf 5 (amounts 10000 250 9750)))
+  pub answer-sales : Tells (Answer.Post tt) (state Closed 5 oneSale, tt) (accepted 5 0 oneSale) (accepted 5 0 (settled 5 (amounts 10000 250 9750)))
   pub answer-refused : Tells (Answer.Post tt) (state (Refused (refusal SequenceWrong 4 194)) 3 oneSale, tt) (refused (refusal SequenceWrong 4 194)) (accepted 3 0 oneSale)
+  pub answer-forecast : Tells (Answer.Post tt) (state Closed 5 oneForecast, tt) (accepted 5 0 oneForecast) (accepted 5 0 oneSale)
   -- `Stage::is_open`: open behind A9; shut at the start
   pub is-open : OneAnswer IsOpen.Post
   pub is-open-ended : Tells (IsOpen.Post tt) (Ended, tt) false true

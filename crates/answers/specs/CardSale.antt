@@ -10,16 +10,17 @@ use Rattle.answers.specs.Samples.{at, sale}
 use base.Fml.{Lft}
 use Rattle.card_sale.proofs.cv.Cv.fault.Reads as Fault
 use Rattle.card_sale.proofs.cv.Cv.read.Reads as Read
+use Rattle.card_sale.proofs.cv.Cv.is_forecast.Reads as IsForecast
 use Rattle.card_sale.proofs.cv.Cv.has_instalment.Reads as HasInstalment
 use Rattle.card_sale.proofs.cv.Cv.payable_amounts.Reads as Payable
 use Rattle.card_sale.proofs.cv.Cv.joined_fault.Reads as JoinedFault
 use Rattle.answers.specs.Held.{OneAnswer, Tells, lent, one}
 
--- a sale of these amounts, and of an instalment, one of how many, with its own
-abbrev pub saleOf : Amounts → ℕ → ℕ → Amounts → Cv
-saleOf whole instalment instalments paid =
+-- a sale of a launch type, of these amounts, and of an instalment, one of how many, with its own
+abbrev pub saleAs : ℕ → Amounts → ℕ → ℕ → Amounts → Cv
+saleAs launched whole instalment instalments paid =
     record {
-      «launch_type» = 1;
+      «launch_type» = launched;
       sale = whole;
       instalment = instalment;
       instalments = instalments;
@@ -28,9 +29,15 @@ saleOf whole instalment instalments paid =
       nseq = 3;
     }
 
--- document 01's cash sale
+abbrev pub saleOf : Amounts → ℕ → ℕ → Amounts → Cv
+saleOf = saleAs 1
+
+-- document 01's cash sale, and that of another launch type
+abbrev pub cashAs : ℕ → Cv
+cashAs launched = saleAs launched (amounts 10000 250 9750) 0 0 (amounts 0 0 0)
+
 abbrev pub cashSale : Cv
-cashSale = saleOf (amounts 10000 250 9750) 0 0 (amounts 0 0 0)
+cashSale = cashAs 1
 
 pub record CardSale (κ : Lft) : Type 0 where
   -- `Cv::fault`: a longer record taken; the fields not in order; capture 7 under edition 1
@@ -42,6 +49,13 @@ pub record CardSale (κ : Lft) : Type 0 where
   pub read : OneAnswer Read.Post
   pub read-gross : Tells (Read.Post (one κ)) (lent sale, tt) cashSale (saleOf (amounts 10000 250 10000) 0 0 (amounts 0 0 0))
   pub read-instalment : Tells (Read.Post (one κ)) (lent sale, tt) cashSale (saleOf (amounts 0 0 0) 0 0 (amounts 10000 250 9750))
+  -- the launch type not read
+  pub read-launch-type : Tells (Read.Post (one κ)) (lent (at 44 "0" sale), tt) (cashAs 0) cashSale
+  -- `Cv::is_forecast`: launch type 2 among the forecasts; 0 not among them
+  pub is-forecast : OneAnswer IsForecast.Post
+  pub forecast-advanced : Tells (IsForecast.Post tt) (cashAs 2, tt) false true
+  pub forecast-normal : Tells (IsForecast.Post tt) (cashAs 1, tt) false true
+  pub forecast-none : Tells (IsForecast.Post tt) (cashAs 0, tt) true false
   -- `Cv::has_instalment`: none where it is the only one; one in a cash sale
   pub has-instalment : OneAnswer HasInstalment.Post
   pub instalment-only : Tells (HasInstalment.Post tt) (saleOf (amounts 9 1 8) 1 1 (amounts 9 1 8), tt) true false

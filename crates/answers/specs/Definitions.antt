@@ -9,7 +9,7 @@ use Rattle.lines.specs.Lines.{joined}
 use Rattle.card_run.specs.Running.{noNumbers}
 use Rattle.card_run.specs.Answer.{goingOnRow, refusedRow, cardFileRow}
 use Rattle.card_run.specs.declared.stage.Stage.the-variants.{BetweenBatches}
-use Rattle.card_kept.specs.Kept.{Kept}
+use Rattle.card_kept.specs.Kept.{sale as saleOf, adjustment as adjustmentOf, isForecast, isSettled, Kept}
 use Rattle.payroll_kept.specs.Kept as payroll
 use Rattle.demands.specs.Feeding.{upTo}
 use Rattle.card_kept.specs.FirstFault.{rulesAt}
@@ -20,6 +20,7 @@ use Rattle.answers.specs.CardRun.{state, refusal, noSale, oneSale, accep
 use Rattle.answers.specs.Samples.{
   at,
   sale,
+  credit,
   debit,
   blankCard,
   cardFile,
@@ -46,6 +47,14 @@ pub record Definitions : Type 0 where
   pub kept-blank-card : Kept 2 (creditFileOf blankCard)
   pub kept-absolute : Kept 2 (joined (a0 ∷ l0 ∷ debit ∷ at 9 "00000000000975" l9 ∷ a9 ∷ [])) → ⊥
   pub kept-zero : Kept 2 (joined (a0 ∷ l0 ∷ debit ∷ at 9 "00000000000000" l9 ∷ a9 ∷ [])) → ⊥
+  -- `isForecast` and `isSettled`: launch type 2 among the forecasts, a forecast in both or in neither, an adjustment in one
+  pub forecast-0 : (isForecast (saleOf (at 44 "0" sale)) ≡ true) × (isSettled (saleOf (at 44 "0" sale)) ≡ false)
+  pub settled-1 : (isForecast (saleOf sale) ≡ false) × (isSettled (saleOf sale) ≡ true)
+  pub settled-2 : (isForecast (saleOf (at 44 "2" sale)) ≡ false) × (isSettled (saleOf (at 44 "2" sale)) ≡ true)
+  pub adjustment-in-neither : (isForecast (adjustmentOf credit) ≡ false) × (isSettled (adjustmentOf credit) ≡ false)
+  -- `Kept` with a forecast: a trailer by the settled alone
+  pub kept-forecast : Kept 2 (fileOf (at 44 "0" sale))
+  pub kept-settled-alone : Kept 2 (joined (a0 ∷ l0 ∷ at 44 "0" sale ∷ at 3 "00000000000000000000" l9 ∷ a9 ∷ [])) → ⊥
   -- `Kept` of a payroll file: a Z in a file that is no return, an accent in a header, a batch trailer that does not count itself
   pub kept-payroll : payroll.Kept payrollFile
   pub kept-z : payroll.Kept (payrollFileOf (at 14 "Z" payment)) → ⊥

@@ -45,13 +45,14 @@ use Rattle.payroll_program.proofs.outcome.outcome_at.Reads as PayrollOutcomeAt
 use Rattle.payroll_program.proofs.check.check.Reads as CheckPayroll
 use Rattle.answers.specs.Held.{OneAnswer, Tells, lent, one, two, three}
 use Rattle.answers.specs.Samples.{at, sale, cardFile}
-use Rattle.answers.specs.Totals.{amounts, totalsOf}
+use Rattle.answers.specs.Totals.{amounts, settled}
 use Rattle.answers.specs.CardRun.{refusal, oneSale, accepted}
+use Rattle.answers.specs.Texts.{elevenLines}
 use Rattle.answers.specs.DaySheet.{sheetOf}
 
 -- an accepted file whose gross is neither discount nor net, and the refusal of an edition that is not known
 abbrev pub madeUp : CardAnswer
-madeUp = accepted 5 1 (totalsOf 1 (amounts 10000 250 9751))
+madeUp = accepted 5 1 (settled 1 (amounts 10000 250 9751))
 
 abbrev unknownEdition : CardAnswer
 unknownEdition = Refused (refusal EditionUnknown 0 0)
@@ -65,8 +66,9 @@ abbrev arguments : String → RefT (List ℕ) × (RefT (List ℕ) × (RefT (List
 arguments edition = (lent (ascii edition), (lent (ascii "a"), (lent (ascii "b"), tt)))
 
 pub record Programs (κ : Lft) (fd : ℤ) : Type 0 where
-  -- document 01's example of what is printed: "A file of A0, L0, one cash CV with 10000, 250, 9750, L9, A9" prints seven lines; "With CV numbered 000004 it prints one line"
-  pub seven-lines : verdictText (checkOf 2 cardFile) ≡ ascii "ACCEPTED\nRECORDS 5\nBATCHES 1\nSALES 1\nGROSS 10000\nDISCOUNT 250\nNET 9750\n"
+  -- document 01's example of what is printed: "A file of A0, L0, one cash CV with 10000, 250, 9750, L9, A9" prints seven lines, and by document 02 "eight lines in place of four":
+  -- eleven; "With CV numbered 000004 it prints one line"
+  pub eleven-lines : verdictText (checkOf 2 cardFile) ≡ ascii elevenLines
   pub one-line : verdictText (checkOf 2 (fileOf (at 194 "000004" sale))) ≡ ascii "REFUSED 9 RECORD 3 COLUMN 194\n"
   -- `argument_of`: one that is too long taken for an empty one; any argument taken for one that is too long
   pub argument-of : OneAnswer ArgumentOf.Post

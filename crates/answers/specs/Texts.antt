@@ -2,7 +2,7 @@
 -- Behind a function's name: the wrong programs that are ruled out.
 use Prim.Native.Nat.{ℕ, _-_}
 use Prim.Native.String.{String}
-use mathlib.Core.List.{List, _++_}
+use mathlib.Core.List.{List, [], _++_}
 use lib.IntN.{pos}
 use lib.ListN.{length, replicate}
 use base.Fml.{Lft}
@@ -54,6 +54,11 @@ day = totalsOf 4 (amounts 65990 1650 64340)
 
 abbrev example : CardOutcome
 example = Answer (accepted 5 1 oneSale)
+
+-- document 01's example, as it is printed with both sets
+abbrev pub elevenLines : String
+elevenLines =
+    "ACCEPTED\nRECORDS 5\nBATCHES 1\nFORECAST SALES 0\nFORECAST GROSS 0\nFORECAST DISCOUNT 0\nFORECAST NET 0\nSETTLED SALES 1\nSETTLED GROSS 10000\nSETTLED DISCOUNT 250\nSETTLED NET 9750\n"
 
 abbrev lateCard : CardOutcome
 lateCard = Answer (Refused late)
@@ -125,22 +130,34 @@ pub record Texts (κ : Lft) : Type 0 where
       TellsOutcome (PutMistake.Post (one κ)) (unsynced, (lent (room 120), (0, tt)))
       (record { answer = 104; exit = (unsynced, (lent (shown 120 "OUT is written, but its folder cannot be synced, so see that it outlasts a power cut: Permission denied\n"), (0, tt))) })
       (record { answer = 104; exit = (unsynced, (lent (shown 120 "OUT is written, but its folder cannot be synced, so see that it outlasts a power cut: Read-only file system\n"), (0, tt))) })
-  -- `put_totals`: gross and net exchanged; no line of the discount
-  pub totals : OneOutcome (λ κs s. now (s .1 .0)) PutTotals.Post
+  -- `put_totals`: gross and net exchanged; no line of the discount; a word that leads the first line alone
+  pub totals : OneOutcome (λ κs s. now (s .1 .1 .0)) PutTotals.Post
   pub totals-exchanged :
-      TellsOutcome (PutTotals.Post (one κ)) (day, (lent (room 50), (0, tt)))
-      (record { answer = 44; exit = (day, (lent (shown 50 "SALES 4\nGROSS 65990\nDISCOUNT 1650\nNET 64340\n"), (0, tt))) })
-      (record { answer = 44; exit = (day, (lent (shown 50 "SALES 4\nGROSS 64340\nDISCOUNT 1650\nNET 65990\n"), (0, tt))) })
+      TellsOutcome (PutTotals.Post (two κ)) (lent [], (day, (lent (room 50), (0, tt))))
+      (record { answer = 44; exit = (lent [], (day, (lent (shown 50 "SALES 4\nGROSS 65990\nDISCOUNT 1650\nNET 64340\n"), (0, tt)))) })
+      (record { answer = 44; exit = (lent [], (day, (lent (shown 50 "SALES 4\nGROSS 64340\nDISCOUNT 1650\nNET 65990\n"), (0, tt)))) })
   pub totals-no-discount :
-      TellsOutcome (PutTotals.Post (one κ)) (day, (lent (room 50), (0, tt)))
-      (record { answer = 44; exit = (day, (lent (shown 50 "SALES 4\nGROSS 65990\nDISCOUNT 1650\nNET 64340\n"), (0, tt))) })
-      (record { answer = 30; exit = (day, (lent (shown 50 "SALES 4\nGROSS 65990\nNET 64340\n"), (0, tt))) })
-  -- `card_program::put_outcome`: records and batches exchanged; a refused file accepted
+      TellsOutcome (PutTotals.Post (two κ)) (lent [], (day, (lent (room 50), (0, tt))))
+      (record { answer = 44; exit = (lent [], (day, (lent (shown 50 "SALES 4\nGROSS 65990\nDISCOUNT 1650\nNET 64340\n"), (0, tt)))) })
+      (record { answer = 30; exit = (lent [], (day, (lent (shown 50 "SALES 4\nGROSS 65990\nNET 64340\n"), (0, tt)))) })
+  pub totals-led-once :
+      TellsOutcome (PutTotals.Post (two κ)) (lent (ascii "ALL "), (day, (lent (room 60), (0, tt))))
+      (record { answer = 60; exit = (lent (ascii "ALL "), (day, (lent (shown 60 "ALL SALES 4\nALL GROSS 65990\nALL DISCOUNT 1650\nALL NET 64340\n"), (0, tt)))) })
+      (record { answer = 48; exit = (lent (ascii "ALL "), (day, (lent (shown 60 "ALL SALES 4\nGROSS 65990\nDISCOUNT 1650\nNET 64340\n"), (0, tt)))) })
+  -- `card_program::put_outcome`: records and batches exchanged; forecast and settled exchanged; both in four lines; a refused file accepted
   pub card : OneOutcome (λ κs s. now (s .1 .0)) PutOutcome.Post
   pub card-exchanged :
-      TellsOutcome (PutOutcome.Post (one κ)) (example, (lent (room 72), (0, tt)))
-      (record { answer = 71; exit = (example, (lent (shown 72 "ACCEPTED\nRECORDS 5\nBATCHES 1\nSALES 1\nGROSS 10000\nDISCOUNT 250\nNET 9750\n"), (0, tt))) })
-      (record { answer = 71; exit = (example, (lent (shown 72 "ACCEPTED\nRECORDS 1\nBATCHES 5\nSALES 1\nGROSS 10000\nDISCOUNT 250\nNET 9750\n"), (0, tt))) })
+      TellsOutcome (PutOutcome.Post (one κ)) (example, (lent (room 176), (0, tt)))
+      (record { answer = 172; exit = (example, (lent (shown 176 elevenLines), (0, tt))) })
+      (record { answer = 172; exit = (example, (lent (shown 176 "ACCEPTED\nRECORDS 1\nBATCHES 5\nFORECAST SALES 0\nFORECAST GROSS 0\nFORECAST DISCOUNT 0\nFORECAST NET 0\nSETTLED SALES 1\nSETTLED GROSS 10000\nSETTLED DISCOUNT 250\nSETTLED NET 9750\n"), (0, tt))) })
+  pub card-sets-exchanged :
+      TellsOutcome (PutOutcome.Post (one κ)) (example, (lent (room 176), (0, tt)))
+      (record { answer = 172; exit = (example, (lent (shown 176 elevenLines), (0, tt))) })
+      (record { answer = 172; exit = (example, (lent (shown 176 "ACCEPTED\nRECORDS 5\nBATCHES 1\nFORECAST SALES 1\nFORECAST GROSS 10000\nFORECAST DISCOUNT 250\nFORECAST NET 9750\nSETTLED SALES 0\nSETTLED GROSS 0\nSETTLED DISCOUNT 0\nSETTLED NET 0\n"), (0, tt))) })
+  pub card-four-lines :
+      TellsOutcome (PutOutcome.Post (one κ)) (example, (lent (room 176), (0, tt)))
+      (record { answer = 172; exit = (example, (lent (shown 176 elevenLines), (0, tt))) })
+      (record { answer = 71; exit = (example, (lent (shown 176 "ACCEPTED\nRECORDS 5\nBATCHES 1\nSALES 1\nGROSS 10000\nDISCOUNT 250\nNET 9750\n"), (0, tt))) })
   pub card-accepted :
       TellsOutcome (PutOutcome.Post (one κ)) (lateCard, (lent (room 32), (0, tt)))
       (record { answer = 30; exit = (lateCard, (lent (shown 32 "REFUSED 9 RECORD 3 COLUMN 194\n"), (0, tt))) })

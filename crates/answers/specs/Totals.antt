@@ -4,6 +4,8 @@ use mathlib.Core.Bool.{true, false}
 use Rattle.totals.specs.declared.sum.Sum.the-variants.{Of, Over}
 use Rattle.totals.specs.declared.amounts.Amounts.{Amounts}
 use Rattle.totals.specs.declared.amounts.Totals.{Totals as TotalsOf}
+use Rattle.totals.specs.declared.two_sets.TwoSets.{TwoSets}
+use Rattle.totals.specs.TwoSets.{setsOf}
 use Rattle.totals.proofs.sum.checked.Reads as Checked
 use Rattle.totals.proofs.sum.added.Reads as Added
 use Rattle.totals.proofs.amounts.Amounts.agree.Reads as Agree
@@ -11,6 +13,9 @@ use Rattle.totals.proofs.amounts.Amounts.added.Reads as AmountsAdded
 use Rattle.totals.proofs.amounts.Totals.none.Reads as None
 use Rattle.totals.proofs.amounts.Totals.of_sale.Reads as OfSale
 use Rattle.totals.proofs.amounts.Totals.added.Reads as TotalsAdded
+use Rattle.totals.proofs.two_sets.TwoSets.none.Reads as NoSets
+use Rattle.totals.proofs.two_sets.TwoSets.one_more.Reads as OneMore
+use Rattle.totals.proofs.two_sets.TwoSets.both.Reads as Both
 use Rattle.answers.specs.Held.{OneAnswer, Tells}
 
 abbrev pub amounts : ℕ → ℕ → ℕ → Amounts
@@ -18,6 +23,17 @@ amounts gross discount net = record { gross = gross; discount = discount; net = 
 
 abbrev pub totalsOf : ℕ → Amounts → TotalsOf
 totalsOf sales a = record { sales = sales; amounts = a }
+
+-- so many sales of these amounts, all settled, and all forecast
+abbrev pub settled : ℕ → Amounts → TwoSets
+settled sales a = setsOf (totalsOf 0 (amounts 0 0 0)) (totalsOf sales a)
+
+abbrev pub forecast : ℕ → Amounts → TwoSets
+forecast sales a = setsOf (totalsOf sales a) (totalsOf 0 (amounts 0 0 0))
+
+-- a forecast of 10 and a settled sale of 100
+abbrev twoSales : TwoSets
+twoSales = setsOf (totalsOf 1 (amounts 10 2 8)) (totalsOf 1 (amounts 100 30 70))
 
 -- the largest number of 64 bits
 abbrev largest : ℕ
@@ -52,3 +68,17 @@ pub record Totals : Type 0 where
   pub totals-added : OneAnswer TotalsAdded.Post
   pub totals-added-sales : Tells (TotalsAdded.Post tt) (totalsOf 1 (amounts 10 2 8), (totalsOf 1 (amounts 100 30 70), tt)) (totalsOf 2 (amounts 110 32 78)) (totalsOf 1 (amounts 110 32 78))
   pub totals-added-last : Tells (TotalsAdded.Post tt) (totalsOf 1 (amounts 10 2 8), (totalsOf 1 (amounts 100 30 70), tt)) (totalsOf 2 (amounts 110 32 78)) (totalsOf 2 (amounts 100 30 70))
+  -- `TwoSets::none`: a forecast that has not come; a settled sale that has not
+  pub no-sets : OneAnswer NoSets.Post
+  pub no-sets-forecast : Tells (NoSets.Post tt) tt (settled 0 (amounts 0 0 0)) (forecast 1 (amounts 10 2 8))
+  pub no-sets-settled : Tells (NoSets.Post tt) tt (settled 0 (amounts 0 0 0)) (settled 1 (amounts 10 2 8))
+  -- `TwoSets::one_more`: a forecast among the settled, in both sets and in neither; a settled sale among the forecasts
+  pub one-more : OneAnswer OneMore.Post
+  pub one-more-settled : Tells (OneMore.Post tt) (settled 1 (amounts 100 30 70), (true, (totalsOf 1 (amounts 10 2 8), tt))) twoSales (settled 2 (amounts 110 32 78))
+  pub one-more-both : Tells (OneMore.Post tt) (settled 1 (amounts 100 30 70), (true, (totalsOf 1 (amounts 10 2 8), tt))) twoSales (setsOf (totalsOf 1 (amounts 10 2 8)) (totalsOf 2 (amounts 110 32 78)))
+  pub one-more-neither : Tells (OneMore.Post tt) (settled 1 (amounts 100 30 70), (true, (totalsOf 1 (amounts 10 2 8), tt))) twoSales (settled 1 (amounts 100 30 70))
+  pub one-more-forecast : Tells (OneMore.Post tt) (forecast 1 (amounts 10 2 8), (false, (totalsOf 1 (amounts 100 30 70), tt))) twoSales (forecast 2 (amounts 110 32 78))
+  -- `TwoSets::both`: the settled alone; the forecasts alone
+  pub both : OneAnswer Both.Post
+  pub both-settled : Tells (Both.Post tt) (twoSales, tt) (totalsOf 2 (amounts 110 32 78)) (totalsOf 1 (amounts 100 30 70))
+  pub both-forecast : Tells (Both.Post tt) (twoSales, tt) (totalsOf 2 (amounts 110 32 78)) (totalsOf 1 (amounts 10 2 8))

@@ -15,7 +15,9 @@ use Rattle.card_run.specs.declared.answer.CardAnswer.{CardAnswer}
 use Rattle.card_run.specs.Answer.{refusedRow, cardFileRow}
 use Rattle.card_file.specs.CardFile.{checkOf}
 use Rattle.card_kept.specs.FirstFault.{FirstFaultOfRecord, EditionFirst, FirstFaultDecides}
-use Rattle.card_kept.specs.Kept.{Kept}
+use Rattle.card_kept.specs.Kept.{Kept, salesOf}
+use Rattle.card_kept.specs.Numbers.{TotalsOf}
+use Rattle.card_sheet.specs.SheetOf.{sheetFrom}
 use Rattle.card_mask.specs.Mask.{Masks}
 use Rattle.card_mask.specs.Masked.{maskedFile}
 use Rattle.card_stream.specs.declared.Stream.{Stream}
@@ -60,11 +62,18 @@ pub record Variants (d : Demands) : Type 0 where
   -- the edition not looked at
   pub card-rules-kept : NotSo (d .card-rules-kept)
       ((edition : ℕ) (bytes : List ℕ) → (cardFileRow (checkOf edition bytes) .accepted ≡ true) ↔ Kept 2 bytes)
+  -- the settled alone taken for the totals over all CV
+  pub card-numbers : NotSo (d .card-rules-kept .numbers)
+      ((edition : ℕ) (bytes : List ℕ) (kept : Kept edition bytes) → TotalsOf (salesOf (kept .file)) (cardFileRow (checkOf edition bytes) .numbers .totals .settled))
   -- a second byte 1A at the end
   pub payroll-rules-kept : NotSo (d .payroll-rules-kept)
       ((bytes : List ℕ) → (payrollRow (payrollCheckOf bytes) .accepted ≡ true) ↔ payroll.Kept (bytes ++ (26 ∷ [])))
   -- of numbers that are not allowed too
   pub sheet-there-and-back : NotSo (d .sheet-there-and-back) ((s : Sheet) → readRow (readOf (bytesOf s)) ≡ record { refusal = noRefusal; sheet = s })
+  -- the sheet of a file: the settled alone
+  pub both-sets-added : NotSo (d .sheet-there-and-back .both-sets-added)
+      ((edition : ℕ) (bytes : List ℕ) → cardFileRow (checkOf edition bytes) .accepted ≡ true →
+      sheetFrom edition (cardFileRow (checkOf edition bytes) .numbers) .totals ≡ cardFileRow (checkOf edition bytes) .numbers .totals .settled)
   -- of records with an LF too
   pub fed-as-whole : NotSo (d .fed-as-whole) ((edition : ℕ) (records : List (List ℕ)) → FedAsWhole edition records)
   -- of a state that is not refused too
