@@ -100,7 +100,7 @@ variants d =
       card-numbers = λ wrong.
           let file = fileOf (at 44 "0" sale) in
           let kept = d .card-rules-kept .exactly 2 file .0 refl in
-          told (λ n. n) refl (wrong 2 file kept .count ∙ sym (d .card-rules-kept .numbers 2 file kept .both .count));
+          told (λ t. t .sales) refl (wrong 2 file kept .plain ∙ sym (d .card-rules-kept .numbers 2 file kept .both .plain));
       payroll-rules-kept = λ wrong. false≢true (d .payroll-rules-kept .exactly (payrollFile ++ (26 ∷ [])) .1 (wrong payrollFile .0 refl));
       sheet-there-and-back = λ wrong. told (λ row. row .refusal .number) refl (wrong (sheetOf 3 9750));
       both-sets-added = λ wrong. told (λ t. t .sales) refl (wrong 2 (fileOf (at 44 "0" sale)) refl);

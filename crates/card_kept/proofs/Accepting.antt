@@ -22,7 +22,8 @@ use Rattle.card_file.specs.CardFile.{endOf, ranOf, checkOf}
 use Rattle.card_kept.specs.Fields.{numberAt}
 use Rattle.card_kept.specs.Records.{A9Kept}
 use Rattle.card_kept.specs.Kept.{File, batchesRecords, recordsOf, FileKept, Kept, transactionsOf, forecastsOf, settledOf, creditsOf, debitsOf}
-use Rattle.card_kept.proofs.PlainTotals.{totalsOf, none-plus}
+use Rattle.card_kept.specs.Numbers.{plainTotals}
+use Rattle.card_kept.proofs.PlainTotals.{none-plus}
 use Rattle.card_kept.proofs.Transactions.{adjustedOf, same-adjusted}
 use Rattle.card_kept.proofs.TwoSets.{same-sets}
 use Rattle.card_kept.proofs.PlainSteps.{same-at, after, behindPlain, Small, still-small, step}
@@ -53,7 +54,7 @@ plainNumbers f =
       movement = numberAt 23 28 (f .a0);
       records = length (recordsOf f);
       batches = length (f .batches);
-      totals = setsOf (totalsOf (forecastsOf f)) (totalsOf (settledOf f));
+      totals = setsOf (plainTotals (forecastsOf f)) (plainTotals (settledOf f));
       credits = adjustedOf (creditsOf f);
       debits = adjustedOf (debitsOf f);
     }
@@ -75,7 +76,7 @@ file-taken e f is-known k =
     let last = step full (f .a9) (batches .small) A9 refl trailer in
     comes
     (same-at begun refl (omega (arith, length-append (batchesRecords (f .batches)) (f .a9 ∷ []))) (omega arith)
-    (same-sets (none-plus (totalsOf (forecastsOf f))) (none-plus (totalsOf (settledOf f))))
+    (same-sets (none-plus (plainTotals (forecastsOf f))) (none-plus (plainTotals (settledOf f))))
     (same-adjusted (omega arith) (omega arith)) (same-adjusted (omega arith) (omega arith)) refl)
     (record {
       is =

@@ -29,8 +29,8 @@ use Rattle.card_kept.specs.Kept.{
   forecastsOf,
   settledOf,
 }
-use Rattle.card_kept.specs.Numbers.{TotalsOf, Numbers}
-use Rattle.card_kept.proofs.PlainTotals.{totalsOf, sold-row, Within, part-within}
+use Rattle.card_kept.specs.Numbers.{plainTotals, TotalsOf, Numbers}
+use Rattle.card_kept.proofs.PlainTotals.{sold-row, Within, part-within}
 use Rattle.card_kept.proofs.Transactions.{picked-row, of-batches}
 use Rattle.card_kept.proofs.TwoSets.{Parted, parted-none, parted-row, parted-one}
 use Rattle.card_kept.proofs.Accepting.{plainNumbers, file-taken}
@@ -70,14 +70,11 @@ module _ (e : ℕ) (test : Transaction → Bool) (no-adjustment : (r : List ℕ)
   sales-agree = of-batches e (λ ts. Agree (picked test ts)) refl one-agrees row-agrees
 
 -- what the totals of sales say of them
-of-sales : {n : ℕ} (rs : List (List ℕ)) → n < 10 ^ 6 → Within n (totalsOf rs) → Agree rs → TotalsOf rs (totalsOf rs)
+of-sales : {n : ℕ} (rs : List (List ℕ)) → n < 10 ^ 6 → Within n (plainTotals rs) → Agree rs → TotalsOf rs (plainTotals rs)
 unfolding figureOf
 of-sales rs l within agree =
     record {
-      count = refl;
-      gross = refl;
-      discount = refl;
-      net = refl;
+      plain = refl;
       gross-below = omega (arith, within gross);
       discount-below = omega (arith, within discount);
       net-below = omega (arith, within net);
@@ -91,7 +88,7 @@ plain e bytes k =
     let kept = k .keeps .batches in
     let small = file-taken e f (k .edition-known) (k .keeps) .small in
     let parted = of-batches e Parted parted-none (parted-one e) parted-row 2 (f .batches) kept in
-    let each = part-within _ (totalsOf (forecastsOf f)) (totalsOf (settledOf f)) (small .totals) in
+    let each = part-within _ (plainTotals (forecastsOf f)) (plainTotals (settledOf f)) (small .totals) in
     record {
       date = refl;
       movement = refl;

@@ -31,7 +31,7 @@ use Rattle.card_file.specs.Feeding.{fedOf}
 use Rattle.card_kept.specs.Fields.{numberAt}
 use Rattle.card_kept.specs.Adjustment.{adjustmentType, adjustmentNet}
 use Rattle.card_kept.specs.Sale.{payableGross}
-use Rattle.card_kept.specs.Kept.{Transaction, sale, adjustment, sumOver, isSale, isCredit, isDebit, picked}
+use Rattle.card_kept.specs.Kept.{Transaction, sale, adjustment, sumOver, isCredit, isDebit, picked}
 use Rattle.card_kept.proofs.FieldsKept.{plain-number}
 use Rattle.card_kept.proofs.Adjustments.{credit-or-debit, plainAj, plain-aj, net-below}
 use Rattle.card_kept.proofs.PlainTotals.{sold-alone, Within, sold-is, sold-within, more-within, none-within}

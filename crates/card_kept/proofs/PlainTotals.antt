@@ -4,7 +4,6 @@ use Prim.Native.Nat.{ℕ, suc, _+_, _*_, _^_, _≤_, _<_}
 use mathlib.Core.Path.{_≡_, refl, sym, _∙_, ap, subst}
 use mathlib.Core.List.{List, [], _∷_, _++_}
 use native.Mathlib.Omega.{arith}
-use lib.ListN.{length}
 use Rattle.totals.specs.declared.amounts.Totals.{Totals}
 use Rattle.totals.specs.Amounts.{noTotals, oneSale, addedTotals, plus}
 use Rattle.totals.proofs.Totals.{Figure, sales, gross, discount, net, figureOf, by-figure, figure-added, figure-plus, figure-of-none}
@@ -12,17 +11,10 @@ use Rattle.card_sale.specs.Cv.{cvTable, cvOf, payable}
 use Rattle.card_kept.specs.Fields.{FieldsKept}
 use Rattle.card_kept.specs.Sale.{payableGross, payableDiscount, payableNet}
 use Rattle.card_kept.specs.Kept.{sumOver}
+use Rattle.card_kept.specs.Numbers.{plainTotals}
 use Rattle.card_kept.proofs.Sales.{plain-cv, payable-is, payable-below}
 
--- how many sales there are, and the sums of what is payable of them, as whole numbers
-abbrev pub totalsOf : List (List ℕ) → Totals
-totalsOf rs =
-    record {
-      sales = length rs;
-      amounts = record { gross = sumOver payableGross rs; discount = sumOver payableDiscount rs; net = sumOver payableNet rs };
-    }
-
--- such totals added
+-- totals added
 pub plus-none : (t : Totals) → plus t noTotals ≡ t
 plus-none t = by-figure (λ f. simp (figure-plus, figure-of-none) (omega arith))
 
@@ -39,26 +31,26 @@ plus-crosswise t u v w = by-figure (λ f. simp figure-plus (omega arith))
 abbrev pub sold : List ℕ → Totals
 sold r = record { sales = 1; amounts = record { gross = payableGross r; discount = payableDiscount r; net = payableNet r } }
 
-pub sold-first : (r : List ℕ) (rs : List (List ℕ)) → totalsOf (r ∷ rs) ≡ plus (sold r) (totalsOf rs)
+pub sold-first : (r : List ℕ) (rs : List (List ℕ)) → plainTotals (r ∷ rs) ≡ plus (sold r) (plainTotals rs)
 unfolding sumOver figureOf
 sold-first r rs = by-figure each
   where
-    each : (f : Figure) → figureOf f (totalsOf (r ∷ rs)) ≡ figureOf f (plus (sold r) (totalsOf rs))
+    each : (f : Figure) → figureOf f (plainTotals (r ∷ rs)) ≡ figureOf f (plus (sold r) (plainTotals rs))
     each sales = omega arith
     each gross = refl
     each discount = refl
     each net = refl
 
-pub sold-alone : (r : List ℕ) → totalsOf (r ∷ []) ≡ sold r
+pub sold-alone : (r : List ℕ) → plainTotals (r ∷ []) ≡ sold r
 unfolding sumOver
 sold-alone r = sold-first r [] ∙ plus-none (sold r)
 
-pub sold-row : (rs ss : List (List ℕ)) → totalsOf (rs ++ ss) ≡ plus (totalsOf rs) (totalsOf ss)
+pub sold-row : (rs ss : List (List ℕ)) → plainTotals (rs ++ ss) ≡ plus (plainTotals rs) (plainTotals ss)
 unfolding sumOver
-sold-row [] ss = sym (none-plus (totalsOf ss))
+sold-row [] ss = sym (none-plus (plainTotals ss))
 sold-row (r ∷ rs) ss =
-    sold-first r (rs ++ ss) ∙ ap (plus (sold r)) (sold-row rs ss) ∙ sym (plus-plus (sold r) (totalsOf rs) (totalsOf ss)) ∙
-    ap (λ t. plus t (totalsOf ss)) (sym (sold-first r rs))
+    sold-first r (rs ++ ss) ∙ ap (plus (sold r)) (sold-row rs ss) ∙ sym (plus-plus (sold r) (plainTotals rs) (plainTotals ss)) ∙
+    ap (λ t. plus t (plainTotals ss)) (sym (sold-first r rs))
 
 -- totals of at most so many sales, of which each amount is at most 10^11
 abbrev pub Within : ℕ → Totals → Type 0

@@ -1,7 +1,7 @@
 -- A sale that keeps its fields: its numbers are those of its digits, it is settled exactly where it is not forecast, its joined rules hold exactly where its
 -- amounts and instalments are right, and what is payable of it is below 10^11.
 use Prim.Native.Nat.{ℕ, _+_}
-use mathlib.Core.Path.{_≡_, refl, ap}
+use mathlib.Core.Path.{_≡_, refl}
 use mathlib.Core.Logic.{_⊎_, inl, inr, ⊎-elim}
 use mathlib.Core.List.{List}
 use mathlib.Core.Bool.{Bool, true, false, cond, not, _&&_, _||_, false≢true}

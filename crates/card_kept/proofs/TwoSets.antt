@@ -11,9 +11,9 @@ use Rattle.totals.specs.TwoSets.{setsOf, oneSaleMore, summed}
 use Rattle.card_sale.specs.Cv.{cvTable, cvOf, isForecast as forecastCv, payable}
 use Rattle.card_kept.specs.Fields.{FieldsKept}
 use Rattle.card_kept.specs.Kept.{Transaction, sale, adjustment, sumOver, isSale, isForecast, isSettled, picked, TransactionKept}
+use Rattle.card_kept.specs.Numbers.{plainTotals}
 use Rattle.card_kept.proofs.Sales.{plain-cv, is-settled}
 use Rattle.card_kept.proofs.PlainTotals.{
-  totalsOf,
   plus-none,
   none-plus,
   plus-plus,
@@ -32,7 +32,7 @@ use Rattle.card_kept.proofs.Transactions.{picked-row}
 
 -- with the sales of these transactions more, each in its set
 abbrev pub withSales : TwoSets → List Transaction → TwoSets
-withSales s ts = setsOf (plus (s .forecast) (totalsOf (picked isForecast ts))) (plus (s .settled) (totalsOf (picked isSettled ts)))
+withSales s ts = setsOf (plus (s .forecast) (plainTotals (picked isForecast ts))) (plus (s .settled) (plainTotals (picked isSettled ts)))
 
 pub same-sets : {t t' u u' : Totals} → t ≡ t' → u ≡ u' → setsOf t u ≡ setsOf t' u'
 same-sets t u = λ i. setsOf (t i) (u i)
@@ -43,19 +43,19 @@ unfolding picked sumOver
 sets-none s = same-sets (plus-none (s .forecast)) (plus-none (s .settled))
 
 picked-totals : (test : Transaction → Bool) (ts us : List Transaction) →
-    totalsOf (picked test (ts ++ us)) ≡ plus (totalsOf (picked test ts)) (totalsOf (picked test us))
-picked-totals test ts us = ap totalsOf (picked-row test ts us) ∙ sold-row (picked test ts) (picked test us)
+    plainTotals (picked test (ts ++ us)) ≡ plus (plainTotals (picked test ts)) (plainTotals (picked test us))
+picked-totals test ts us = ap plainTotals (picked-row test ts us) ∙ sold-row (picked test ts) (picked test us)
 
 set-row : (test : Transaction → Bool) (t : Totals) (ts us : List Transaction) →
-    plus (plus t (totalsOf (picked test ts))) (totalsOf (picked test us)) ≡ plus t (totalsOf (picked test (ts ++ us)))
-set-row test t ts us = plus-plus t (totalsOf (picked test ts)) (totalsOf (picked test us)) ∙ ap (plus t) (sym (picked-totals test ts us))
+    plus (plus t (plainTotals (picked test ts))) (plainTotals (picked test us)) ≡ plus t (plainTotals (picked test (ts ++ us)))
+set-row test t ts us = plus-plus t (plainTotals (picked test ts)) (plainTotals (picked test us)) ∙ ap (plus t) (sym (picked-totals test ts us))
 
 pub sets-row : (s : TwoSets) (ts us : List Transaction) → withSales (withSales s ts) us ≡ withSales s (ts ++ us)
 sets-row s ts us = same-sets (set-row isForecast (s .forecast) ts us) (set-row isSettled (s .settled) ts us)
 
 -- both sets of transactions together are the totals of all their sales
 abbrev pub Parted : List Transaction → Type 0
-Parted ts = plus (totalsOf (picked isForecast ts)) (totalsOf (picked isSettled ts)) ≡ totalsOf (picked isSale ts)
+Parted ts = plus (plainTotals (picked isForecast ts)) (plainTotals (picked isSettled ts)) ≡ plainTotals (picked isSale ts)
 
 pub parted-none : Parted []
 unfolding picked sumOver
@@ -64,7 +64,7 @@ parted-none = refl
 pub parted-row : (ts us : List Transaction) → Parted ts → Parted us → Parted (ts ++ us)
 parted-row ts us h k =
     ap₂ plus (picked-totals isForecast ts us) (picked-totals isSettled ts us) ∙
-    plus-crosswise (totalsOf (picked isForecast ts)) (totalsOf (picked isForecast us)) (totalsOf (picked isSettled ts)) (totalsOf (picked isSettled us)) ∙
+    plus-crosswise (plainTotals (picked isForecast ts)) (plainTotals (picked isForecast us)) (plainTotals (picked isSettled ts)) (plainTotals (picked isSettled us)) ∙
     ap₂ plus h k ∙ sym (picked-totals isSale ts us)
 
 -- a sale in the set of its launch type
@@ -76,9 +76,9 @@ module _ (e : ℕ) (r : List ℕ) (k : FieldsKept e r cvTable) where
   unfolding picked sumOver
   parted-sale = rw (is-settled e r k) (by (isForecast (sale r)))
     where
-      by : (forecast : Bool) → plus (totalsOf (setOf forecast r)) (totalsOf (setOf (not forecast) r)) ≡ totalsOf (r ∷ [])
-      by true = plus-none (totalsOf (r ∷ []))
-      by false = none-plus (totalsOf (r ∷ []))
+      by : (forecast : Bool) → plus (plainTotals (setOf forecast r)) (plainTotals (setOf (not forecast) r)) ≡ plainTotals (r ∷ [])
+      by true = plus-none (plainTotals (r ∷ []))
+      by false = none-plus (plainTotals (r ∷ []))
 
   -- one more is such a sale, as whole numbers
   pub one-sale-more : {n : ℕ} (s : TwoSets) → n < 10 ^ 6 → Within n (summed s) →
@@ -89,11 +89,11 @@ module _ (e : ℕ) (r : List ℕ) (k : FieldsKept e r cvTable) where
       ap (λ t. oneSaleMore (isForecast (sale r)) t s) (sold-is e r k) ∙
       rw (is-settled e r k) (by (isForecast (sale r)))
     where
-      into : (t : Totals) → Within n t → addedTotals t (sold r) ≡ plus t (totalsOf (r ∷ []))
+      into : (t : Totals) → Within n t → addedTotals t (sold r) ≡ plus t (plainTotals (r ∷ []))
       into t within = not-capped t (sold r) l within (sold-within e r k) ∙ ap (plus t) (sym (sold-alone r))
 
       by : (forecast : Bool) → oneSaleMore forecast (sold r) s ≡
-          setsOf (plus (s .forecast) (totalsOf (setOf forecast r))) (plus (s .settled) (totalsOf (setOf (not forecast) r)))
+          setsOf (plus (s .forecast) (plainTotals (setOf forecast r))) (plus (s .settled) (plainTotals (setOf (not forecast) r)))
       by true = same-sets (into (s .forecast) (part-within n (s .forecast) (s .settled) h .0)) (sym (plus-none (s .settled)))
       by false = same-sets (sym (plus-none (s .forecast))) (into (s .settled) (part-within n (s .forecast) (s .settled) h .1))
 
@@ -107,11 +107,11 @@ parted-one e n (sale r) k = parted-sale e r (k .kind .fields)
 parted-one e n (adjustment r) k = parted-adjustment r
 
 -- both sets with a transaction more are as small as the totals of all sales
-pub sets-within : (n : ℕ) (s : TwoSets) (t : Transaction) → Parted (t ∷ []) → Within 1 (totalsOf (picked isSale (t ∷ []))) → Within n (summed s) →
+pub sets-within : (n : ℕ) (s : TwoSets) (t : Transaction) → Parted (t ∷ []) → Within 1 (plainTotals (picked isSale (t ∷ []))) → Within n (summed s) →
     Within (suc n) (summed (withSales s (t ∷ [])))
 sets-within n s t parted one h =
     subst (Within (suc n))
     (sym
-    (plus-crosswise (s .forecast) (totalsOf (picked isForecast (t ∷ []))) (s .settled) (totalsOf (picked isSettled (t ∷ []))) ∙
+    (plus-crosswise (s .forecast) (plainTotals (picked isForecast (t ∷ []))) (s .settled) (plainTotals (picked isSettled (t ∷ []))) ∙
     ap (plus (summed s)) parted))
-    (sold-more n (summed s) (totalsOf (picked isSale (t ∷ []))) h one)
+    (sold-more n (summed s) (plainTotals (picked isSale (t ∷ []))) h one)

@@ -11,12 +11,17 @@ use Rattle.card_kept.specs.Adjustment.{adjustmentNet}
 use Rattle.card_kept.specs.Sale.{payableGross, payableDiscount, payableNet}
 use Rattle.card_kept.specs.Kept.{File, recordsOf, sumOver, added, taken, transactionsOf, salesOf, forecastsOf, settledOf, creditsOf, debitsOf}
 
--- what totals say of sales: how many there are, and the sums of what is payable, as whole numbers
+-- how many sales there are, and the sums of what is payable of them, as whole numbers
+abbrev pub plainTotals : List (List ℕ) → Totals
+plainTotals rs =
+    record {
+      sales = length rs;
+      amounts = record { gross = sumOver payableGross rs; discount = sumOver payableDiscount rs; net = sumOver payableNet rs };
+    }
+
+-- what totals say of sales
 pub record TotalsOf (sales : List (List ℕ)) (t : Totals) : Type 0 where
-  pub count : t .sales ≡ length sales
-  pub gross : t .amounts .gross ≡ sumOver payableGross sales
-  pub discount : t .amounts .discount ≡ sumOver payableDiscount sales
-  pub net : t .amounts .net ≡ sumOver payableNet sales
+  pub plain : t ≡ plainTotals sales
   -- NSEQ has six digits, so no sum leaves 64 bits
   pub gross-below : t .amounts .gross < 10 ^ 17
   pub discount-below : t .amounts .discount < 10 ^ 17
@@ -40,7 +45,7 @@ pub record Numbers (f : File) (a : Accepted) : Type 0 where
   pub credit-net : a .credits .net ≡ sumOver adjustmentNet (creditsOf f)
   pub debits : a .debits .count ≡ length (debitsOf f)
   pub debit-net : a .debits .net ≡ sumOver adjustmentNet (debitsOf f)
-  -- nor does any other count or sum leave 64 bits
+  -- no other count and no other sum leaves 64 bits
   pub records-below : a .records ≤ 999999
   pub credits-below : a .credits .count ≤ 999999
   pub credit-net-below : a .credits .net < 10 ^ 17

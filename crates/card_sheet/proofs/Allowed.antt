@@ -32,7 +32,7 @@ unfolding figureOf
 all-sales k a p = subst (TotalsOf (salesOf (k .file))) (sym (no-loss (a .totals .forecast) (a .totals .settled) fits)) (p .both)
   where
     fits : (f : Figure) → figureOf f (summed (a .totals)) ≤ top
-    fits sales = omega (arith, p .both .count, p .records, p .records-below, picked-counted isSale (k .file))
+    fits sales = omega (arith, ap (λ t. t .sales) (p .both .plain), p .records, p .records-below, picked-counted isSale (k .file))
     fits gross = omega (arith, p .both .gross-below)
     fits discount = omega (arith, p .both .discount-below)
     fits net = omega (arith, p .both .net-below)
@@ -46,7 +46,7 @@ is-plain {edition} k a p =
       date = p .date i;
       movement = p .movement i;
       batches = p .batches i;
-      totals = record { sales = all .count i; amounts = record { gross = all .gross i; discount = all .discount i; net = all .net i } };
+      totals = all .plain i;
     }
 
 module _ {edition : ℕ} {bytes : List ℕ} (k : Kept edition bytes) where
@@ -72,7 +72,7 @@ module _ {edition : ℕ} {bytes : List ℕ} (k : Kept edition bytes) where
         ap isDay (p .date) ∙ date-right,
         le-leb (a .movement) 999999 (omega (arith, p .movement, movement-below)),
         le-leb (a .batches) 999999 (omega (arith, p .batches, p .records, p .records-below, batches-below (k .file))),
-        le-leb (bothSets (a .totals) .sales) 999999 (omega (arith, all .count, p .records, p .records-below, picked-counted isSale (k .file))),
+        le-leb (bothSets (a .totals) .sales) 999999 (omega (arith, ap (λ t. t .sales) (all .plain), p .records, p .records-below, picked-counted isSale (k .file))),
         lt-ltb _ _ (all .gross-below),
         lt-ltb _ _ (all .discount-below),
         lt-ltb _ _ (all .net-below),

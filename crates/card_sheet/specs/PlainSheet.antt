@@ -2,8 +2,8 @@
 use Prim.Native.Nat.{ℕ}
 use lib.ListN.{length}
 use Rattle.card_kept.specs.Fields.{numberAt}
-use Rattle.card_kept.specs.Sale.{payableGross, payableDiscount, payableNet}
-use Rattle.card_kept.specs.Kept.{File, sumOver, salesOf}
+use Rattle.card_kept.specs.Kept.{File, salesOf}
+use Rattle.card_kept.specs.Numbers.{plainTotals}
 use Rattle.day_sheet.specs.declared.sheet.Sheet.{Sheet}
 
 -- "A0 date, movement, .. batches, sales (CV records), and the totals of payable gross, discount and net over all CV", "and the edition"
@@ -14,12 +14,5 @@ plainSheet edition f =
       date = numberAt 9 16 (f .a0);
       movement = numberAt 23 28 (f .a0);
       batches = length (f .batches);
-      totals = record {
-        sales = length (salesOf f);
-        amounts = record {
-          gross = sumOver payableGross (salesOf f);
-          discount = sumOver payableDiscount (salesOf f);
-          net = sumOver payableNet (salesOf f);
-        };
-      };
+      totals = plainTotals (salesOf f);
     }

@@ -12,8 +12,8 @@ noSets = setsOf noTotals noTotals
 
 -- one sale more: in the one set or in the other, by whether it is forecast
 abbrev pub oneSaleMore : Bool → Totals → TwoSets → TwoSets
-oneSaleMore isForecast sale s =
-    cond isForecast (setsOf (addedTotals (s .forecast) sale) (s .settled)) (setsOf (s .forecast) (addedTotals (s .settled) sale))
+oneSaleMore forecast sale s =
+    cond forecast (setsOf (addedTotals (s .forecast) sale) (s .settled)) (setsOf (s .forecast) (addedTotals (s .settled) sale))
 
 -- both sets added, each number at the top of 64 bits at most
 abbrev pub bothSets : TwoSets → Totals
