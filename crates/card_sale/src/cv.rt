@@ -183,7 +183,7 @@ impl Cv {
         }
     }
 
-    // Whether the sale is forecast, and not settled.
+    // Whether it is a forecast; any other sale is settled.
     pub fn is_forecast(self) -> bool
         ensures { λ r. ⌜ r ≡ isForecast self ⌝ }
     {
