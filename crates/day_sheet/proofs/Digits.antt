@@ -1,19 +1,16 @@
 -- Laws of a number's digits in a base: writing them from the last to the first, reading them from the first to the last, there and back.
 use Prim.Native.Nat.{ℕ, suc, _+_, _*_, _-_, _/_, _%_, _^_, _≤_, _<_}
-use mathlib.Core.Path.{_≡_, refl, sym, _∙_, ap, ap₂}
-use mathlib.Core.List.{List, [], _∷_}
+use mathlib.Core.Path.{_≡_, sym, _∙_, ap, ap₂}
+use mathlib.Core.List.{List, _∷_}
 use native.Mathlib.Omega.{arith}
 use native.Mathlib.Numerals.{add-one}
 use native.Mathlib.Nat.{pow-zero, pow-suc, pow-le-pow-right, div-one, div-div-eq-div-mul}
 use lib.ListN.{length, getD, drop, set, length-set, drop-of-length-le}
 use lib.Dec.{lit<}
 use lib.Seq.{drop-cons, drop-length, getD-set-same, drop-set-lt}
-use mathlib.Core.Bool.{true}
-use borrow.Author.Tests.{le-leb}
-use Rattle.text.specs.declared.alphabet.Alphabet.the-variants.{Digits}
-use Rattle.text.specs.Alphabet.{holdsOnly}
-use Rattle.text.specs.Number.{valueFrom, numberOf, plainNumber}
-use Rattle.day_sheet.specs.Number.{inBase, valueIn}
+use Rattle.day_sheet.specs.declared.number.Form.{Form}
+use Rattle.day_sheet.specs.declared.number.Form.the-variants.{Bytes, Digits}
+use Rattle.day_sheet.specs.Number.{base, zeroByte, inBase, valueIn}
 
 -- a byte put in front of what is written already
 drop-set : (l : List ℕ) (j x : ℕ) → j < length l → drop j (set l j x) ≡ x ∷ drop (suc j) l
@@ -53,18 +50,10 @@ pub digits-end : (b z n : ℕ) (s : List ℕ) (i : ℕ) → length s ≤ i → v
 unfolding valueIn
 digits-end b z n s i h = rw (drop-of-length-le s h)
 
--- a value of i bytes is below 256^i, and eight of them leave room
-pub byte-more : (n i x : ℕ) → n < 256 ^ i → x < 256 → n * 256 + x < 256 ^ (i + 1)
-byte-more n i x h k = rw (add-one, pow-suc) (omega arith)
+-- a value of i bytes is below 256^i, in either form, and eight of them leave room
+pub byte-more : (f : Form) (n i x : ℕ) → n < 256 ^ i → x < 256 → n * base f + (x - zeroByte f) < 256 ^ (i + 1)
+byte-more Bytes n i x h k = rw (add-one, pow-suc) (omega arith)
+byte-more Digits n i x h k = rw (add-one, pow-suc) (omega arith)
 
 pub room : (n i : ℕ) → i < 8 → n < 256 ^ i → n < 256 ^ 7
 room n i h k = omega (arith, pow-le-pow-right {n = 256} (lit< tt) {i = i} {j = 7} (omega arith))
-
--- the number that ASCII digits write is their value in base 10
-decimal-from : (n : ℕ) (s : List ℕ) → valueFrom n s ≡ valueIn 10 48 n s
-unfolding valueFrom valueIn
-decimal-from n [] = refl
-decimal-from n (x ∷ s) = decimal-from (n * 10 + (x - 48)) s
-
-pub decimal-value : (s : List ℕ) → holdsOnly Digits s ≡ true → length s ≤ 18 → plainNumber (numberOf s) ≡ valueIn 10 48 0 s
-decimal-value s e h = rw (e, le-leb _ _ h) (decimal-from 0 s)

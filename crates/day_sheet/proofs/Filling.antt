@@ -1,7 +1,7 @@
 -- Filling an output from the front, one number behind the other: what is filled so far is in front, the rest is as it was.
 use Prim.Native.Nat.{ℕ, zero, suc, _+_, _-_, _≤_}
-use mathlib.Core.Path.{_≡_, refl, sym, _∙_, ap, ap₂}
-use mathlib.Core.List.{List, [], _++_, append-assoc, append-nil}
+use mathlib.Core.Path.{_≡_, refl, sym, _∙_, ap, ap₂, subst}
+use mathlib.Core.List.{List, _++_, append-assoc}
 use native.Mathlib.Omega.{arith}
 use lib.ListN.{length, take, drop, length-append, take-append-drop}
 use lib.Seq.{length-take-le, take-at, drop-append-add, drop-drop}
@@ -45,7 +45,6 @@ filled-more {d} {p} {l} {l′} {at} b z n to h f e =
           sym (append-assoc p new (drop to d));
     }
 
--- five numbers behind one another, bracketed as the layout brackets them
-pub bracketed : (p a b c d e t : List ℕ) →
-    p ++ a ++ b ++ c ++ d ++ e ++ t ≡ p ++ ((a ++ (b ++ (c ++ (d ++ (e ++ []))))) ++ t)
-bracketed p a b c d e t = simp (append-assoc, append-nil)
+-- whatever was filled, it stands in front
+pub filled-so-far : {d p l : List ℕ} {at : ℕ} → Filled d p at l → Filled d (take at l) at l
+filled-so-far {d} {p} {l} {at} f = subst (λ (q : List ℕ). Filled d q at l) (sym (front-of f)) f

@@ -1,8 +1,11 @@
 pub mod Digits
+pub mod Values
 pub mod Filling
 pub mod Places
+pub mod Allowances
 pub mod Readings
 pub mod Writings
-pub mod Values
+pub mod Conversions
 pub mod Tables
 pub mod RoundTrip
+pub mod ThereAndBack

@@ -1,102 +1,116 @@
--- What we write reads back as the same numbers, and a sheet that we can read is the one that we would write, byte for byte.
-use Prim.Native.Nat.{ℕ, zero, suc, _+_, _%_, _/_, _^_, _≤_, _<_}
+-- What we write reads back as the same numbers, and a sheet that we can read is the one that we would write, byte for byte: both versions by the laws of their tables.
+use Prim.Native.Nat.{ℕ, _+_, _^_, _<_}
 use mathlib.Core.Path.{_≡_, refl, sym, _∙_, ap, ap₂}
 use mathlib.Core.List.{List, [], _∷_, _++_}
-use mathlib.Core.Bool.{Bool, true, false, cond, _&&_}
+use mathlib.Core.Bool.{Bool, true, false, cond, _&&_, _||_}
 use native.Mathlib.Omega.{arith}
-use native.Mathlib.Nat.{mod-lt}
-use borrow.Author.Tests.{le-leb, leb-true, ltb-true, eqb-true}
+use borrow.Author.Tests.{eqb-true}
 use lib.ListN.{length, getD, take, drop, length-drop, take-append-drop}
-use lib.Seq.{take-all, drop-drop}
-use lib.Dec.{lit<, leb, ltb, eqb}
+use lib.Seq.{take-all}
+use lib.Dec.{lit<, eqb}
 use lib.Pow.{areBytes}
 use Rattle.refusal.specs.declared.Refusal.{Refusal}
-use Rattle.text.specs.declared.alphabet.Alphabet.the-variants.{Digits}
-use Rattle.text.specs.Alphabet.{allowed, holdsOnly}
 use Rattle.text.specs.Literal.{ascii, sameBytes}
-use Rattle.text.proofs.Alphabets.{both, both-left, both-right, in-a-row, digit-low, digit-high}
+use Rattle.text.proofs.Alphabets.{both-left, both-right}
 use Rattle.text.proofs.Literals.{same-equal}
 use Rattle.totals.specs.declared.amounts.Totals.{Totals}
-use Rattle.totals.specs.Amounts.{agreeing}
-use Rattle.calendar.specs.Day.{isDay}
 use Rattle.calendar.proofs.Days.{day-range}
+use Rattle.day_sheet.specs.declared.layout.Place.{Place}
+use Rattle.day_sheet.specs.declared.layout.Version.{Version}
+use Rattle.day_sheet.specs.declared.layout.Version.the-variants.{One, Two}
+use Rattle.day_sheet.specs.declared.sheet.Heading.{Heading}
 use Rattle.day_sheet.specs.declared.sheet.Sheet.{Sheet}
+use Rattle.day_sheet.specs.declared.sheet.Sheet.the-variants.{Version1, Version2}
 use Rattle.day_sheet.specs.declared.reader.SheetRead.the-variants.{Read, Refused}
 use Rattle.day_sheet.specs.Number.{inBase}
-use Rattle.day_sheet.specs.Sheet.{totalsAllowed, sheetAllowed}
-use Rattle.day_sheet.specs.Layout.{version1, numbersOf, inPlaces, fromPlaces, bytesOf}
-use Rattle.day_sheet.specs.Reading.{isMarked, numbersIn, sheetIn, dateAndMovement, numbersRight, readNumbers, readOf}
-use Rattle.day_sheet.proofs.Places.{date-and-movement}
-use Rattle.day_sheet.proofs.Values.{Right}
-use Rattle.day_sheet.proofs.Tables.{Fit, read-back, RightPlaces, written-back}
+use Rattle.day_sheet.specs.Version.{numberOf, widthOf, placesOf}
+use Rattle.day_sheet.specs.Layout.{version1, version2, tableOf, tableWidth, inPlaces, fromPlaces, digitsRight}
+use Rattle.day_sheet.specs.Sheet.{versionOf, sheetRow, bytesOf, sheetOf}
+use Rattle.day_sheet.specs.Allowed.{headingAllowed, setAllowed, setsAllowed, splitAllowed, sheetAllowed}
+use Rattle.day_sheet.specs.Reading.{isMarked, versionFor, numbersIn, sheetIn, numbersRight, readAs, readOf}
+use Rattle.day_sheet.specs.Writing.{sheetWidth}
+use Rattle.day_sheet.proofs.Allowances.{Within, set-within, HeadingWithin, heading-within, SetsWithin, sets-within, split-below}
+use Rattle.day_sheet.proofs.Readings.{allowed}
+use Rattle.day_sheet.proofs.Tables.{Fit, read-back, all-digits, drop-bytes, written-back}
 
--- allowed numbers have room in their places
-totals-room : (t : Totals) → totalsAllowed t ≡ true → (t .sales ≤ 999999) × (t .amounts .gross < 10 ^ 17) × (t .amounts .discount < 10 ^ 17) × (t .amounts .net < 10 ^ 17)
-unfolding totalsAllowed
-totals-room t e =
-    let sales = leb (t .sales) 999999 in
-    let gross = ltb (t .amounts .gross) (10 ^ 17) in
-    let discount = ltb (t .amounts .discount) (10 ^ 17) in
-    let net = ltb (t .amounts .net) (10 ^ 17) in
-    let e₁ = both-right sales (gross && (discount && (net && agreeing (t .amounts)))) e in
-    let e₂ = both-right gross (discount && (net && agreeing (t .amounts))) e₁ in
-    let e₃ = both-right discount (net && agreeing (t .amounts)) e₂ in (
-      leb-true _ _ (both-left sales (gross && (discount && (net && agreeing (t .amounts)))) e),
-      ltb-true _ _ (both-left gross (discount && (net && agreeing (t .amounts))) e₁),
-      ltb-true _ _ (both-left discount (net && agreeing (t .amounts)) e₂),
-      ltb-true _ _ (both-left net (agreeing (t .amounts)) e₃),
-    )
+-- allowed numbers have room in their places: those that both versions have in front, and what is behind them
+front-fits : (v : ℕ) (h : Heading) (t : Totals) (ps : List Place) (ns : List ℕ) → v < 256 ^ 2 → HeadingWithin h → Within t → Fit ps ns →
+    Fit (version1 ++ ps)
+    (v ∷ h .edition ∷ h .date ∷ h .movement ∷ h .batches ∷ t .sales ∷ t .amounts .gross ∷ t .amounts .discount ∷ t .amounts .net ∷ ns)
+front-fits v h t ps ns small a b f =
+    let date = day-range (h .date) (a .day) in
+    let edition = a .edition in
+    let movement = a .movement in
+    let batches = a .batches in
+    let sales = b .sales in
+    let gross = b .gross in
+    let discount = b .discount in
+    let net = b .net in
+    (small, (omega arith, (omega arith, (omega arith, (omega arith, (omega arith, (omega arith, (omega arith, (omega arith, f)))))))))
 
-room : (s : Sheet) → sheetAllowed s ≡ true → Fit version1 (numbersOf s)
-unfolding sheetAllowed
-room s e =
-    let from = leb 1 (s .edition) in
-    let to = leb (s .edition) 2 in
-    let day = isDay (s .date) in
-    let movement = leb (s .movement) 999999 in
-    let batches = leb (s .batches) 999999 in
-    let totals = totalsAllowed (s .totals) in
-    let e₁ = both-right from (to && (day && (movement && (batches && totals)))) e in
-    let e₂ = both-right to (day && (movement && (batches && totals))) e₁ in
-    let e₃ = both-right day (movement && (batches && totals)) e₂ in
-    let e₄ = both-right movement (batches && totals) e₃ in
-    let edition = leb-true (s .edition) 2 (both-left to (day && (movement && (batches && totals))) e₁) in
-    let date = day-range (s .date) (both-left day (movement && (batches && totals)) e₂) in
-    let six = leb-true (s .movement) 999999 (both-left movement (batches && totals) e₃) in
-    let count = leb-true (s .batches) 999999 (both-left batches totals e₄) in
-    let sums = totals-room (s .totals) (both-right batches totals e₄) in
-    (lit< tt, (omega arith, (omega arith, (omega arith, (omega arith, (omega arith, (omega arith, (omega arith, (omega arith, tt)))))))))
+fits : (s : Sheet) → sheetAllowed s ≡ true → Fit (tableOf (versionOf s)) (sheetRow s)
+unfolding sheetAllowed sheetRow
+fits (Version1 h t) e =
+    let heading = both-left (headingAllowed h) (setAllowed t) e in
+    let set = both-right (headingAllowed h) (setAllowed t) e in
+    front-fits 1 h t [] (drop 9 (sheetRow (Version1 h t))) (lit< tt) (heading-within h heading) (set-within t set) tt
+fits (Version2 h split sets) e =
+    let rest = setsAllowed sets && splitAllowed split (sets .forecast) in
+    let heading = both-left (headingAllowed h) rest e in
+    let e₁ = both-right (headingAllowed h) rest e in
+    let w = sets-within sets (both-left (setsAllowed sets) (splitAllowed split (sets .forecast)) e₁) in
+    let s = split-below split (sets .forecast) (both-right (setsAllowed sets) (splitAllowed split (sets .forecast)) e₁) in
+    let f = set-within (sets .forecast) (w .forecast) in
+    let sales = f .sales in
+    let gross = f .gross in
+    let discount = f .discount in
+    let net = f .net in
+    let behind : Fit (drop 9 version2) (drop 9 (sheetRow (Version2 h split sets))) = (omega arith, (omega arith, (omega arith, (omega arith, (omega arith, tt))))) in
+    front-fits 2 h (sets .settled) (drop 9 version2) (drop 9 (sheetRow (Version2 h split sets))) (lit< tt) (heading-within h heading) (set-within (sets .settled) (w .settled)) behind
 
--- what is written are digits
-digits-written : (w n : ℕ) → holdsOnly Digits (inBase 10 48 w n) ≡ true
-unfolding inBase holdsOnly allowed
-digits-written zero n = refl
-digits-written (suc w) n =
-    let q = n / 10 ^ w % 10 in
-    let small : q < 10 = mod-lt (n / 10 ^ w) (lit< tt) in
-    both (both (le-leb 48 (48 + q) (omega arith)) (le-leb (48 + q) 57 (omega arith))) (digits-written w n)
+-- a sheet's bytes: how many there are, their mark, and the version that goes with them
+pub bytes-length : (s : Sheet) → length (bytesOf s) ≡ sheetWidth s
+unfolding inBase inPlaces sheetRow bytesOf
+bytes-length (Version1 h t) = refl
+bytes-length (Version2 h split sets) = refl
 
--- the places that reading looks at, in what we write
 marked : (s : Sheet) → isMarked (bytesOf s) ≡ true
-unfolding inBase inPlaces sameBytes
-marked s = refl
+unfolding inBase inPlaces sheetRow bytesOf sameBytes
+marked (Version1 h t) = refl
+marked (Version2 h split sets) = refl
 
-written-digits : (s : Sheet) → dateAndMovement (bytesOf s) ≡ inBase 10 48 8 (s .date) ++ inBase 10 48 6 (s .movement)
-unfolding inBase inPlaces
-written-digits s = refl
+its-version : (s : Sheet) → versionFor (sheetWidth s) ≡ versionOf s
+its-version (Version1 h t) = refl
+its-version (Version2 h split sets) = refl
 
-written-numbers : (s : Sheet) → numbersIn (bytesOf s) ≡ fromPlaces version1 (inPlaces version1 (numbersOf s))
-written-numbers s = refl
+-- the numbers of a row make its sheet
+row-sheet : (s : Sheet) → sheetOf (versionOf s) (take (length (tableOf (versionOf s))) (sheetRow s)) ≡ s
+unfolding sheetRow
+row-sheet (Version1 h t) = refl
+row-sheet (Version2 h split sets) = refl
+
+row-version : (s : Sheet) → getD (take (length (tableOf (versionOf s))) (sheetRow s)) 0 0 ≡ numberOf (versionOf s)
+unfolding sheetRow
+row-version (Version1 h t) = refl
+row-version (Version2 h split sets) = refl
+
+written-numbers : (s : Sheet) → sheetAllowed s ≡ true → numbersIn (versionOf s) (bytesOf s) ≡ take (length (tableOf (versionOf s))) (sheetRow s)
+unfolding bytesOf
+written-numbers s e = read-back (tableOf (versionOf s)) (sheetRow s) (fits s e)
+
+written-digits : (s : Sheet) → sheetAllowed s ≡ true → digitsRight (tableOf (versionOf s)) (drop 3 (bytesOf s)) ≡ true
+unfolding bytesOf
+written-digits s e = all-digits (tableOf (versionOf s)) (sheetRow s) (fits s e)
 
 -- "A day sheet that we write reads back as the same numbers"
 pub reads-back : (s : Sheet) → sheetAllowed s ≡ true → readOf (bytesOf s) ≡ Read s
-unfolding readOf readNumbers
+unfolding readOf
 reads-back s e =
-    let numbers : numbersIn (bytesOf s) ≡ numbersOf s = written-numbers s ∙ read-back version1 (numbersOf s) (room s e) in
-    let digits : holdsOnly Digits (dateAndMovement (bytesOf s)) ≡ true =
-    ap (holdsOnly Digits) (written-digits s) ∙ in-a-row Digits (inBase 10 48 8 (s .date)) (inBase 10 48 6 (s .movement)) ∙
-    both (digits-written 8 (s .date)) (digits-written 6 (s .movement)) in
-    rw (marked s, digits, numbers, e)
+    let v = versionOf s in
+    let numbers = written-numbers s e in
+    let sheet : sheetIn v (bytesOf s) ≡ s = ap (sheetOf v) numbers ∙ row-sheet s in
+    rw (marked s, bytes-length s, its-version s)
+    (allowed v (bytesOf s) (ap (λ (ns : List ℕ). getD ns 0 0) numbers ∙ row-version s) (written-digits s e) (ap sheetAllowed sheet ∙ e) ∙ ap Read sheet)
 
 -- so two different allowed sheets have different bytes
 pub different : (s t : Sheet) → sheetAllowed s ≡ true → sheetAllowed t ≡ true → bytesOf s ≡ bytesOf t → s ≡ t
@@ -115,98 +129,57 @@ was-read true true false x s a b c e = never (cc)
 was-read true false r x s a b c e = never (cc)
 was-read false q r x s a b c e = never (cc)
 
--- bytes are digits in base 256, and ASCII digits in base 10
-bytes-right : (s : List ℕ) → areBytes s ≡ true → Right 256 0 s
-bytes-right [] e = tt
-bytes-right (x ∷ s) e = (omega arith, ltb-true x 256 (both-left (ltb x 256) (areBytes s) e), bytes-right s (both-right (ltb x 256) (areBytes s) e))
-
-digits-right : (s : List ℕ) → holdsOnly Digits s ≡ true → Right 10 48 s
-unfolding holdsOnly
-digits-right [] e = tt
-digits-right (x ∷ s) e =
-    let d = both-left (allowed Digits x) (holdsOnly Digits s) e in
-    (digit-low x d, omega (arith, digit-high x d), digits-right s (both-right (allowed Digits x) (holdsOnly Digits s) e))
-
--- parts of bytes are bytes
-take-bytes : (n : ℕ) (s : List ℕ) → areBytes s ≡ true → areBytes (take n s) ≡ true
-take-bytes zero s e = refl
-take-bytes (suc n) [] e = refl
-take-bytes (suc n) (x ∷ s) e = both (both-left (ltb x 256) (areBytes s) e) (take-bytes n s (both-right (ltb x 256) (areBytes s) e))
-
-drop-bytes : (n : ℕ) (s : List ℕ) → areBytes s ≡ true → areBytes (drop n s) ≡ true
-drop-bytes zero s e = e
-drop-bytes (suc n) [] e = refl
-drop-bytes (suc n) (x ∷ s) e = drop-bytes n s (both-right (ltb x 256) (areBytes s) e)
-
-part-right : (n : ℕ) (s : List ℕ) → areBytes s ≡ true → Right 256 0 (take n s)
-part-right n s e = bytes-right (take n s) (take-bytes n s e)
-
--- the places of a readable sheet
-right-places : (l : List ℕ) → areBytes l ≡ true → holdsOnly Digits (dateAndMovement l) ≡ true → RightPlaces version1 (drop 3 l)
-right-places l e d =
-    let two = date-and-movement l d in
-    let s = drop 3 l in
-    let t₁ = drop 2 s in
-    let t₂ = drop 1 t₁ in
-    let t₃ = drop 8 t₂ in
-    let t₄ = drop 6 t₃ in
-    let t₅ = drop 4 t₄ in
-    let t₆ = drop 4 t₅ in
-    let t₇ = drop 8 t₆ in
-    let t₈ = drop 8 t₇ in
-    let b₀ = drop-bytes 3 l e in
-    let b₁ = drop-bytes 2 s b₀ in
-    let b₄ = drop-bytes 6 t₃ (drop-bytes 8 t₂ (drop-bytes 1 t₁ b₁)) in
-    let b₅ = drop-bytes 4 t₄ b₄ in
-    let b₆ = drop-bytes 4 t₅ b₅ in
-    let b₇ = drop-bytes 8 t₆ b₆ in
-    let b₈ = drop-bytes 8 t₇ b₇ in
-    let at-date : t₂ ≡ drop 6 l = ap (drop 1) (drop-drop 2 3 l) ∙ drop-drop 1 5 l in
-    let at-movement : t₃ ≡ drop 14 l = ap (drop 8) at-date ∙ drop-drop 8 6 l in
-    let date : holdsOnly Digits (take 8 t₂) ≡ true = ap (λ (t : List ℕ). holdsOnly Digits (take 8 t)) at-date ∙ two .0 in
-    let movement : holdsOnly Digits (take 6 t₃) ≡ true = ap (λ (t : List ℕ). holdsOnly Digits (take 6 t)) at-movement ∙ two .1 in (
-      part-right 2 s b₀,
-      (
-        part-right 1 t₁ b₁,
-        (
-          digits-right (take 8 t₂) date,
-          (
-            digits-right (take 6 t₃) movement,
-            (part-right 4 t₄ b₄, (part-right 4 t₅ b₅, (part-right 8 t₆ b₆, (part-right 8 t₇ b₇, (part-right 8 t₈ b₈, tt))))),
-          ),
-        ),
-      ),
-    )
+-- marked bytes are as many as the version that goes with them has
+marked-length : (n : ℕ) → eqb n 52 || eqb n 81 ≡ true → n ≡ widthOf (versionFor n)
+marked-length n e = by (eqb n 52) refl e
+  where
+    by : (b : Bool) → eqb n 52 ≡ b → b || eqb n 81 ≡ true → n ≡ widthOf (cond b One Two)
+    by true h e = eqb-true n 52 h
+    by false h e = eqb-true n 81 e
 
 -- the numbers that were read are the sheet's, the version among them
-same-numbers : (l : List ℕ) → getD (numbersIn l) 0 0 ≡ 1 → numbersOf (sheetIn l) ≡ numbersIn l
-unfolding fromPlaces
-same-numbers l v = ap (λ (n : ℕ). n ∷ drop 1 (numbersIn l)) (sym v)
+same-numbers : (v : Version) (l : List ℕ) → getD (numbersIn v l) 0 0 ≡ numberOf v →
+    inPlaces (tableOf v) (sheetRow (sheetIn v l)) ≡ inPlaces (tableOf v) (numbersIn v l)
+unfolding fromPlaces inPlaces sheetRow
+same-numbers One l e = ap (λ (n : ℕ). inPlaces version1 (n ∷ drop 1 (numbersIn One l))) (sym e)
+same-numbers Two l e = ap (λ (n : ℕ). inPlaces (tableOf Two) (n ∷ drop 1 (numbersIn Two l))) (sym e)
 
--- a sheet that was read is allowed
-pub read-allowed : (l : List ℕ) (s : Sheet) → readOf l ≡ Read s → sheetAllowed s ≡ true
-unfolding readOf readNumbers
-read-allowed l s e =
-    let w = was-read (isMarked l) (eqb (getD (numbersIn l) 0 0) 1) (numbersRight l) (sheetIn l) s _ _ _ e in
-    ap sheetAllowed (sym (w .3)) ∙ both-right (holdsOnly Digits (dateAndMovement l)) (sheetAllowed (sheetIn l)) (w .2)
+table-width : (v : Version) → 3 + tableWidth (tableOf v) ≡ widthOf v
+unfolding tableWidth
+table-width One = refl
+table-width Two = refl
 
--- "a readable sheet is the one we would write"
-pub the-one-we-write : (l : List ℕ) (s : Sheet) → areBytes l ≡ true → readOf l ≡ Read s → (bytesOf s ≡ l) × (sheetAllowed s ≡ true)
-unfolding readOf readNumbers
-the-one-we-write l s b e =
-    let p = eqb (length l) 52 in
-    let m = sameBytes (take 3 l) (ascii "DSH") in
-    let d = holdsOnly Digits (dateAndMovement l) in
-    let ok = sheetAllowed (sheetIn l) in
-    let w = was-read (isMarked l) (eqb (getD (numbersIn l) 0 0) 1) (numbersRight l) (sheetIn l) s _ _ _ e in
-    let wide = eqb-true (length l) 52 (both-left p m (w .0)) in
-    let mark = same-equal (take 3 l) (ascii "DSH") (both-right p m (w .0)) in
-    let version = eqb-true (getD (numbersIn l) 0 0) 1 (w .1) in
-    let rest : length (drop 3 l) ≡ 49 = length-drop 3 l ∙ omega arith in
-    let numbers : inPlaces version1 (numbersOf (sheetIn l)) ≡ drop 3 l =
-    ap (inPlaces version1) (same-numbers l version) ∙
-    written-back version1 (drop 3 l) (omega arith) (right-places l b (both-left d ok (w .2))) ∙
-    take-all 49 (drop 3 l) (omega arith) in (
-      ap bytesOf (sym (w .3)) ∙ ap₂ _++_ (sym mark) numbers ∙ take-append-drop 3 l,
-      read-allowed l s e,
-    )
+its-bytes : (v : Version) (l : List ℕ) → bytesOf (sheetIn v l) ≡ ascii "DSH" ++ inPlaces (tableOf v) (sheetRow (sheetIn v l))
+unfolding bytesOf
+its-bytes One l = refl
+its-bytes Two l = refl
+
+rewritten : (v : Version) (l : List ℕ) → length l ≡ widthOf v → areBytes l ≡ true → take 3 l ≡ ascii "DSH" → getD (numbersIn v l) 0 0 ≡ numberOf v →
+    digitsRight (tableOf v) (drop 3 l) ≡ true → bytesOf (sheetIn v l) ≡ l
+rewritten v l wide bytes mark number digits =
+    let rest : length (drop 3 l) ≡ tableWidth (tableOf v) = length-drop 3 l ∙ omega (arith, table-width v) in
+    let back = written-back (tableOf v) (drop 3 l) (omega arith) (drop-bytes 3 l bytes) digits ∙ take-all (tableWidth (tableOf v)) (drop 3 l) (omega arith) in
+    its-bytes v l ∙ ap₂ _++_ (sym mark) (same-numbers v l number ∙ back) ∙ take-append-drop 3 l
+
+module _ (l : List ℕ) (s : Sheet) (e : readOf l ≡ Read s) where
+  found :
+      (isMarked l ≡ true) × (eqb (getD (numbersIn (versionFor (length l)) l) 0 0) (numberOf (versionFor (length l))) ≡ true) ×
+      (numbersRight (versionFor (length l)) l ≡ true) × (sheetIn (versionFor (length l)) l ≡ s)
+  unfolding readOf readAs
+  found = was-read _ _ _ _ s _ _ _ e
+
+  -- a sheet that was read is allowed
+  pub read-allowed : sheetAllowed s ≡ true
+  read-allowed =
+      let v = versionFor (length l) in
+      ap sheetAllowed (sym (found .3)) ∙ both-right (digitsRight (tableOf v) (drop 3 l)) (sheetAllowed (sheetIn v l)) (found .2)
+
+  -- "a readable sheet is the one we would write"
+  pub the-one-we-write : areBytes l ≡ true → bytesOf s ≡ l
+  the-one-we-write bytes =
+      let v = versionFor (length l) in
+      let wide = eqb (length l) 52 || eqb (length l) 81 in
+      let mark = sameBytes (take 3 l) (ascii "DSH") in
+      ap bytesOf (sym (found .3)) ∙
+      rewritten v l (marked-length (length l) (both-left wide mark (found .0))) bytes (same-equal (take 3 l) (ascii "DSH") (both-right wide mark (found .0)))
+      (eqb-true _ _ (found .1)) (both-left (digitsRight (tableOf v) (drop 3 l)) (sheetAllowed (sheetIn v l)) (found .2))

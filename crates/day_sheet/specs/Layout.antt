@@ -1,18 +1,15 @@
--- The layout of a day sheet, version 1: one table, which writing and reading go by.
-use Prim.Native.Nat.{ℕ}
+-- The layouts of a day sheet: a table of places for each version, which writing and reading go by.
+use Prim.Native.Nat.{ℕ, _+_}
 use mathlib.Core.List.{List, [], _∷_, _++_}
-use lib.ListN.{getD, take, drop}
-use Rattle.text.specs.Literal.{ascii}
-use Rattle.day_sheet.specs.declared.sheet.Sheet.{Sheet}
-use Rattle.day_sheet.specs.declared.number.Form.{Form}
+use mathlib.Core.Bool.{Bool, true, _&&_}
+use lib.ListN.{take, drop}
 use Rattle.day_sheet.specs.declared.number.Form.the-variants.{Bytes, Digits}
-use Rattle.day_sheet.specs.Number.{base, zeroByte, inBase, valueIn}
+use Rattle.day_sheet.specs.declared.layout.Place.{Place}
+use Rattle.day_sheet.specs.declared.layout.Version.{Version}
+use Rattle.day_sheet.specs.declared.layout.Version.the-variants.{One, Two}
+use Rattle.day_sheet.specs.Number.{base, zeroByte, holdsRight, inBase, valueIn}
 
 -- a number's place: how many bytes it takes, and in which form
-pub record Place : Type 0 where
-  pub width : ℕ
-  pub form : Form
-
 abbrev pub bytes : ℕ → Place
 bytes width = record { width = width; form = Bytes }
 
@@ -32,26 +29,24 @@ version1 =
     bytes 8 ∷
     bytes 8 ∷ []
 
--- a sheet's numbers in that order
-abbrev pub numbersOf : Sheet → List ℕ
-numbersOf s =
-    1 ∷ s .edition ∷ s .date ∷ s .movement ∷ s .batches ∷ s .totals .sales ∷
-    s .totals .amounts .gross ∷ s .totals .amounts .discount ∷ s .totals .amounts .net ∷ []
+-- "version 1's layout .., then"
+abbrev pub version2 : List Place
+version2 =
+    version1 ++
+    (bytes 1 ∷  -- "one byte that is 1 if the split is known and 0 if not"
+    bytes 4 ∷  -- "the forecast's count (4 bytes)"
+    bytes 8 ∷  -- "and three totals (8 each)"
+    bytes 8 ∷
+    bytes 8 ∷ [])
 
--- and the sheet that has such numbers
-abbrev pub sheetOf : List ℕ → Sheet
-sheetOf ns =
-    record {
-      edition = getD ns 1 0;
-      date = getD ns 2 0;
-      movement = getD ns 3 0;
-      batches = getD ns 4 0;
-      totals =
-          record {
-            sales = getD ns 5 0;
-            amounts = record { gross = getD ns 6 0; discount = getD ns 7 0; net = getD ns 8 0 };
-          };
-    }
+abbrev pub tableOf : Version → List Place
+tableOf One = version1
+tableOf Two = version2
+
+-- how many bytes a table takes
+unfoldable pub tableWidth : List Place → ℕ
+tableWidth [] = 0
+tableWidth (p ∷ ps) = p .width + tableWidth ps
 
 -- numbers, each in its place, in a row
 unfoldable pub inPlaces : List Place → List ℕ → List ℕ
@@ -64,6 +59,7 @@ unfoldable pub fromPlaces : List Place → List ℕ → List ℕ
 fromPlaces [] s = []
 fromPlaces (p ∷ ps) s = valueIn (base (p .form)) (zeroByte (p .form)) 0 (take (p .width) s) ∷ fromPlaces ps (drop (p .width) s)
 
--- the bytes of a sheet
-abbrev pub bytesOf : Sheet → List ℕ
-bytesOf s = ascii "DSH" ++ inPlaces version1 (numbersOf s)
+-- whether each place of digits holds digits alone
+unfoldable pub digitsRight : List Place → List ℕ → Bool
+digitsRight [] s = true
+digitsRight (p ∷ ps) s = holdsRight (p .form) (take (p .width) s) && digitsRight ps (drop (p .width) s)

@@ -1,6 +1,10 @@
 pub mod Number
-pub mod Sheet
+pub mod Version
 pub mod Layout
-pub mod Halves
+pub mod FirstPlaces
+pub mod Sheet
+pub mod Allowed
 pub mod Reading
+pub mod Writing
+pub mod Conversion
 pub mod Answer

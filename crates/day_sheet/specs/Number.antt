@@ -1,7 +1,10 @@
 -- Numbers as a sheet holds them.
 use Prim.Native.Nat.{ℕ, zero, suc, _+_, _*_, _-_, _/_, _%_, _^_}
 use mathlib.Core.List.{List, [], _∷_, _++_}
+use mathlib.Core.Bool.{Bool, true}
 use lib.ListN.{take, drop}
+use Rattle.text.specs.declared.alphabet.Alphabet.the-variants.{Digits as digits}
+use Rattle.text.specs.Alphabet.{holdsOnly}
 use Rattle.day_sheet.specs.declared.number.Form.{Form}
 use Rattle.day_sheet.specs.declared.number.Form.the-variants.{Bytes, Digits}
 
@@ -13,6 +16,11 @@ base Digits = 10
 abbrev pub zeroByte : Form → ℕ
 zeroByte Bytes = 0
 zeroByte Digits = 48
+
+-- whether a form may have these bytes: ASCII digits alone, or any
+abbrev pub holdsRight : Form → List ℕ → Bool
+holdsRight Bytes s = true
+holdsRight Digits s = holdsOnly digits s
 
 -- the w lowest digits of n in base b, "high byte first", where the byte z stands for 0
 unfoldable pub inBase : ℕ → ℕ → ℕ → ℕ → List ℕ
@@ -27,7 +35,3 @@ putAt b z n from to l = take from l ++ (inBase b z (to - from) n ++ drop to l)
 unfoldable pub valueIn : ℕ → ℕ → ℕ → List ℕ → ℕ
 valueIn b z n [] = n
 valueIn b z n (x ∷ s) = valueIn b z (n * b + (x - z)) s
-
--- the number that bytes hold
-abbrev pub bytesValue : List ℕ → ℕ
-bytesValue = valueIn 256 0 0

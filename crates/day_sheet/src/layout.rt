@@ -1,26 +1,84 @@
-// Where a sheet's mark and numbers stand, from 0: each goes up to where the next begins.
-pub const WIDTH: usize = 52;
+// Where a sheet's numbers stand: one table of places, of which version 1 has the first nine and version 2 all.
+ghost use mathlib.Core.Path.{_≡_};
+ghost use Prim.Native.Nat.{_<_};
+ghost use lib.ListN.{getD};
+ghost use Rattle.day_sheet.specs.Layout.{bytes, version2};
+ghost use Rattle.day_sheet.specs.Version.{numberOf, widthOf, placesOf};
+use crate::number::Form;
 
-pub const VERSION: usize = 3;
+pub enum Version {
+    One,
+    Two,
+}
 
-pub const EDITION: usize = 5;
+impl Version {
+    // The number that a sheet of this version carries.
+    pub(crate) fn number(self) -> u64
+        ensures { λ r. ⌜ r ≡ numberOf self ⌝ }
+    {
+        match self {
+            Version::One => 1,
+            Version::Two => 2,
+        }
+    }
 
-pub const DATE: usize = 6;
+    // How many bytes a sheet has.
+    pub fn width(self) -> usize
+        ensures { λ r. ⌜ r ≡ widthOf self ⌝ }
+    {
+        match self {
+            Version::One => WIDTH_1,
+            Version::Two => WIDTH_2,
+        }
+    }
 
-pub const MOVEMENT: usize = 14;
+    // How many places of the table it has.
+    pub(crate) fn places(self) -> usize
+        ensures { λ r. ⌜ r ≡ placesOf self ⌝ }
+    {
+        match self {
+            Version::One => 9,
+            Version::Two => PLACES,
+        }
+    }
+}
 
-pub const BATCHES: usize = 20;
+pub const WIDTH_1: usize = 52;
 
-pub const SALES: usize = 24;
+pub const WIDTH_2: usize = 81;
 
-pub const GROSS: usize = 28;
-
-pub const DISCOUNT: usize = 36;
-
-pub const NET: usize = 44;
-
-// "DSH", as the number that its three bytes hold.
+// "DSH" stands in front of the places, as the number that its three bytes hold.
 pub const MARK: u64 = 0x44_53_48;
 
-// The number of this version.
-pub const VERSION_1: u64 = 1;
+pub const MARK_WIDTH: usize = 3;
+
+// How many numbers the longer table has.
+pub const PLACES: usize = 14;
+
+// A number's place: how many bytes it takes, and in which form.
+pub struct Place {
+    pub width: usize,
+    pub form: Form,
+}
+
+// How many bytes each number takes, in the order of the layout: version, edition, date, movement, batches; sales, gross, discount, net; the split; and the
+// forecast's sales, gross, discount, net.
+const WIDTHS: [usize; PLACES] = [2, 1, 8, 6, 4, 4, 8, 8, 8, 1, 4, 8, 8, 8];
+
+// The place of a number, from 0: date and movement are ASCII digits.
+pub(crate) fn place_of(number: usize) -> Place
+    requires { ⌜ number < 14 ⌝ }
+    ensures { λ r. ⌜ r ≡ getD version2 number (bytes 0) ⌝ }
+{
+    let width = WIDTHS[number];
+    match number {
+        2 | 3 => Place {
+            width,
+            form: Form::Digits,
+        },
+        _ => Place {
+            width,
+            form: Form::Bytes,
+        },
+    }
+}

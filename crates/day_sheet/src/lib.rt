@@ -1,4 +1,6 @@
-// The day sheet, version 1: 52 bytes, there and back.
+// The day sheet, versions 1 and 2: there and back, and from one version to the other.
+mod allowed;
+pub mod converter;
 pub mod layout;
 pub mod number;
 pub mod reader;

@@ -1,8 +1,9 @@
 // Numbers as a sheet holds them: in bytes, the high byte first, or as ASCII digits.
 ghost use mathlib.Core.Path.{_≡_};
-ghost use Prim.Native.Nat.{_+_, _/_, _%_, _≤_};
+ghost use Prim.Native.Nat.{_+_, _*_, _-_, _/_, _%_, _≤_, _<_};
 ghost use lib.ListN.{length};
-ghost use Rattle.day_sheet.specs.Number.{base, zeroByte, inBase, putAt, bytesValue};
+ghost use Rattle.day_sheet.specs.Number.{base, zeroByte, inBase, putAt, valueIn, holdsRight};
+use text::alphabet::Alphabet;
 
 // How a number's digits are written.
 pub enum Form {
@@ -51,18 +52,44 @@ impl Form {
     {
         self.put(number, &mut out[from..to]);
     }
-}
 
-// The number that at most eight bytes hold, the high byte first.
-pub(crate) fn value_of_bytes(part: &[u8]) -> u64
-    requires { ⌜ length (now part) ≤ 8 ⌝ }
-    ensures { λ r. ⌜ r ≡ bytesValue (now (part .entry)) ⌝ }
-{
-    let mut value: u64 = 0;
-    let mut i = 0;
-    while i < part.len() {
-        value = value * 256 + part[i] as u64;
-        i += 1;
+    // A number with one digit more; a byte below the digits counts as 0.
+    fn with_digit(self, number: u64, byte: u8) -> u64
+        requires { ⌜ number < 72057594037927936 ⌝ }
+        ensures { λ r. ⌜ r ≡ number * base self + (byte - zeroByte self) ⌝ }
+    {
+        match self {
+            Form::Bytes => number * 256 + byte as u64,
+            Form::Digits => {
+                if byte < b'0' {
+                    return number * 10;
+                }
+                number * 10 + (byte - b'0') as u64
+            }
+        }
     }
-    value
+
+    // The number that at most eight bytes hold.
+    pub(crate) fn value(self, part: &[u8]) -> u64
+        requires { ⌜ length (now part) ≤ 8 ⌝ }
+        ensures { λ r. ⌜ r ≡ valueIn (base self) (zeroByte self) 0 (now (part .entry)) ⌝ }
+    {
+        let mut value: u64 = 0;
+        let mut i = 0;
+        while i < part.len() {
+            value = self.with_digit(value, part[i]);
+            i += 1;
+        }
+        value
+    }
+
+    // Whether every byte may stand there: digits alone, where the form has them.
+    pub(crate) fn holds(self, part: &[u8]) -> bool
+        ensures { λ r. ⌜ r ≡ holdsRight self (now (part .entry)) ⌝ }
+    {
+        match self {
+            Form::Bytes => true,
+            Form::Digits => text::alphabet::holds_only(Alphabet::Digits, part),
+        }
+    }
 }

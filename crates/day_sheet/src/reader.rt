@@ -1,18 +1,24 @@
 // Reading a day sheet.
 ghost use mathlib.Core.Path.{_≡_};
-ghost use mathlib.Core.Bool.{true};
-ghost use lib.ListN.{length};
-ghost use Rattle.text.specs.Alphabet.{holdsOnly};
+ghost use Prim.Native.Nat.{_-_, _≤_};
+ghost use mathlib.Core.List.{_++_};
+ghost use lib.ListN.{length, drop, replicate};
 ghost use Rattle.refusal.specs.Nowhere.{nowhere};
-ghost use Rattle.day_sheet.specs.Reading.{isMarked, dateAndMovement, sheetIn, readNumbers, readOf};
+ghost use Rattle.day_sheet.specs.Layout.{fromPlaces, digitsRight};
+ghost use Rattle.day_sheet.specs.FirstPlaces.{firstPlaces, RoomFor};
+ghost use Rattle.day_sheet.specs.Version.{placesOf, widthOf};
+ghost use Rattle.day_sheet.specs.Sheet.{totalsFrom, sheetOf};
+ghost use Rattle.day_sheet.specs.Reading.{isMarked, numbersIn, readAs, readOf};
 use crate::layout;
-use crate::number::value_of_bytes;
+use crate::layout::PLACES;
+use crate::layout::Version;
+use crate::sheet::Heading;
 use crate::sheet::Sheet;
 use refusal::Cause;
 use refusal::Refusal;
-use text::alphabet::Alphabet;
 use totals::amounts::Amounts;
 use totals::amounts::Totals;
+use totals::two_sets::TwoSets;
 
 pub enum SheetRead {
     Read(Sheet),
@@ -30,53 +36,116 @@ fn refused(cause: Cause) -> SheetRead
 fn is_marked(bytes: &[u8]) -> bool
     ensures { λ r. ⌜ r ≡ isMarked (now (bytes .entry)) ⌝ }
 {
-    if bytes.len() != layout::WIDTH {
-        return false;
+    if bytes.len() != layout::WIDTH_1 {
+        if bytes.len() != layout::WIDTH_2 {
+            return false;
+        }
     }
-    text::literal::equals(&bytes[..layout::VERSION], b"DSH")
+    text::literal::equals(&bytes[..layout::MARK_WIDTH], b"DSH")
 }
 
-// The count of sales and the totals of a sheet.
-fn totals_in(bytes: &[u8]) -> Totals
-    requires { ⌜ length (now bytes) ≡ 52 ⌝ }
-    ensures { λ r. ⌜ r ≡ sheetIn (now (bytes .entry)) .totals ⌝ }
+// Whether the first places hold what their forms have.
+fn holds_digits(bytes: &[u8], places: usize) -> bool
+    requires { ⌜ RoomFor places (now bytes) ⌝ }
+    ensures { λ r. ⌜ r ≡ digitsRight (firstPlaces places) (drop 3 (now (bytes .entry))) ⌝ }
+{
+    let mut at = layout::MARK_WIDTH;
+    let mut number = 0;
+    while number < places {
+        let place = layout::place_of(number);
+        let form = place.form;
+        let end = at + place.width;
+        if !form.holds(&bytes[at..end]) {
+            return false;
+        }
+        at = end;
+        number += 1;
+    }
+    true
+}
+
+// Reads the numbers of the first places, one behind the other.
+fn read_numbers(bytes: &[u8], numbers: &mut [u64])
+    requires { ⌜ RoomFor (length (now numbers)) (now bytes) ⌝ }
+    ensures { λ _. ⌜ now (numbers .exit) ≡ fromPlaces (firstPlaces (length (now (numbers .entry)))) (drop 3 (now (bytes .entry))) ⌝ }
+{
+    let mut at = layout::MARK_WIDTH;
+    let mut number = 0;
+    while number < numbers.len() {
+        let place = layout::place_of(number);
+        let form = place.form;
+        let end = at + place.width;
+        numbers[number] = form.value(&bytes[at..end]);
+        at = end;
+        number += 1;
+    }
+}
+
+// The numbers of a version's places; behind them zeros.
+fn numbers_in(version: Version, bytes: &[u8]) -> [u64; PLACES]
+    requires { ⌜ length (now bytes) ≡ widthOf version ⌝ }
+    ensures { λ r. ⌜ r ≡ numbersIn version (now (bytes .entry)) ++ replicate (14 - placesOf version) 0 ⌝ }
+{
+    let mut numbers = [0u64; PLACES];
+    let places = version.places();
+    read_numbers(bytes, &mut numbers[..places]);
+    numbers
+}
+
+// The totals whose four numbers begin with this one.
+fn totals_from(first: usize, numbers: [u64; PLACES]) -> Totals
+    requires { ⌜ first ≤ 10 ⌝ }
+    ensures { λ r. ⌜ r ≡ totalsFrom first numbers ⌝ }
 {
     Totals {
-        sales: value_of_bytes(&bytes[layout::SALES..layout::GROSS]),
+        sales: numbers[first],
         amounts: Amounts {
-            gross: value_of_bytes(&bytes[layout::GROSS..layout::DISCOUNT]),
-            discount: value_of_bytes(&bytes[layout::DISCOUNT..layout::NET]),
-            net: value_of_bytes(&bytes[layout::NET..layout::WIDTH]),
+            gross: numbers[first + 1],
+            discount: numbers[first + 2],
+            net: numbers[first + 3],
         },
     }
 }
 
-// The numbers of a sheet whose date and movement are digits.
-fn sheet_in(bytes: &[u8]) -> Sheet
-    requires { ⌜ (length (now bytes) ≡ 52) × (holdsOnly Alphabet.Digits (dateAndMovement (now bytes)) ≡ true) ⌝ }
-    ensures { λ r. ⌜ r ≡ sheetIn (now (bytes .entry)) ⌝ }
+// The sheet of these numbers.
+fn sheet_of(version: Version, numbers: [u64; PLACES]) -> Sheet
+    ensures { λ r. ⌜ r ≡ sheetOf version numbers ⌝ }
 {
-    Sheet {
-        edition: value_of_bytes(&bytes[layout::EDITION..layout::DATE]),
-        date: text::number::number_of(&bytes[layout::DATE..layout::MOVEMENT]).or_zero(),
-        movement: text::number::number_of(&bytes[layout::MOVEMENT..layout::BATCHES]).or_zero(),
-        batches: value_of_bytes(&bytes[layout::BATCHES..layout::SALES]),
-        totals: totals_in(bytes),
+    let heading = Heading {
+        edition: numbers[1],
+        date: numbers[2],
+        movement: numbers[3],
+        batches: numbers[4],
+    };
+    match version {
+        Version::One => Sheet::Version1 {
+            heading,
+            totals: totals_from(5, numbers),
+        },
+        Version::Two => Sheet::Version2 {
+            heading,
+            split: numbers[9],
+            sets: TwoSets {
+                forecast: totals_from(10, numbers),
+                settled: totals_from(5, numbers),
+            },
+        },
     }
 }
 
-// Reads the numbers of as many bytes as a sheet has: 16, 17, or the sheet.
-fn read_numbers(bytes: &[u8]) -> SheetRead
-    requires { ⌜ length (now bytes) ≡ 52 ⌝ }
-    ensures { λ r. ⌜ r ≡ readNumbers (now (bytes .entry)) ⌝ }
+// Reads the numbers of as many bytes as this version has: 16, 17, or the sheet.
+fn read_as(version: Version, bytes: &[u8]) -> SheetRead
+    requires { ⌜ length (now bytes) ≡ widthOf version ⌝ }
+    ensures { λ r. ⌜ r ≡ readAs version (now (bytes .entry)) ⌝ }
 {
-    if value_of_bytes(&bytes[layout::VERSION..layout::EDITION]) != layout::VERSION_1 {
+    let numbers = numbers_in(version, bytes);
+    if numbers[0] != version.number() {
         return refused(Cause::SheetVersionUnknown);
     }
-    if !text::alphabet::holds_only(Alphabet::Digits, &bytes[layout::DATE..layout::BATCHES]) {
+    if !holds_digits(bytes, version.places()) {
         return refused(Cause::SheetNumbersNotAllowed);
     }
-    let sheet = sheet_in(bytes);
+    let sheet = sheet_of(version, numbers);
     if sheet.is_allowed() {
         return SheetRead::Read(sheet);
     }
@@ -90,5 +159,8 @@ pub fn read(bytes: &[u8]) -> SheetRead
     if !is_marked(bytes) {
         return refused(Cause::NotADaySheet);
     }
-    read_numbers(bytes)
+    if bytes.len() == layout::WIDTH_1 {
+        return read_as(Version::One, bytes);
+    }
+    read_as(Version::Two, bytes)
 }

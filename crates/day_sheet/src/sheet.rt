@@ -1,64 +1,120 @@
-// The numbers of a day sheet, and whether they are allowed.
+// The numbers of a day sheet, and the sheet of the other version.
 ghost use mathlib.Core.Path.{_≡_};
-ghost use Rattle.day_sheet.specs.Sheet.{totalsAllowed, sheetAllowed};
+ghost use Rattle.day_sheet.specs.Sheet.{versionOf, rowOf, sheetRow};
+ghost use Rattle.day_sheet.specs.Conversion.{converted};
+use crate::layout::PLACES;
+use crate::layout::Version;
 use totals::amounts::Totals;
+use totals::two_sets::TwoSets;
 
-// The date is the number AAAAMMDD.
-pub struct Sheet {
+// What both versions begin with. The date is the number AAAAMMDD.
+pub struct Heading {
     pub edition: u64,
     pub date: u64,
     pub movement: u64,
     pub batches: u64,
-    pub totals: Totals,
 }
 
-// Counts and the movement are at most this.
-const LARGEST_COUNT: u64 = 999_999;
+pub enum Sheet {
+    // The totals of all sales.
+    Version1 {
+        heading: Heading,
+        totals: Totals,
+    },
+    // Those of both sets; the split is 1 if it is known, and 0 if not.
+    Version2 {
+        heading: Heading,
+        split: u64,
+        sets: TwoSets,
+    },
+}
 
-// Totals are below this.
-const TOO_LARGE: u64 = 100_000_000_000_000_000;
-
-// Whether the count of sales and the totals are allowed.
-fn totals_allowed(totals: Totals) -> bool
-    ensures { λ r. ⌜ r ≡ totalsAllowed totals ⌝ }
+// All numbers of the longer table, in its order.
+fn row_of(
+    version: u64,
+    heading: Heading,
+    first: Totals,
+    split: u64,
+    second: Totals,
+) -> [u64; PLACES]
+    ensures { λ r. ⌜ r ≡ rowOf version heading first split second ⌝ }
 {
-    let amounts = totals.amounts;
-    if LARGEST_COUNT < totals.sales {
-        return false;
-    }
-    if TOO_LARGE <= amounts.gross {
-        return false;
-    }
-    if TOO_LARGE <= amounts.discount {
-        return false;
-    }
-    if TOO_LARGE <= amounts.net {
-        return false;
-    }
-    amounts.agree()
+    let amounts = first.amounts;
+    let others = second.amounts;
+    [
+        version,
+        heading.edition,
+        heading.date,
+        heading.movement,
+        heading.batches,
+        first.sales,
+        amounts.gross,
+        amounts.discount,
+        amounts.net,
+        split,
+        second.sales,
+        others.gross,
+        others.discount,
+        others.net,
+    ]
 }
 
 impl Sheet {
-    // Whether a sheet may hold these numbers.
-    pub fn is_allowed(self) -> bool
-        ensures { λ r. ⌜ r ≡ sheetAllowed self ⌝ }
+    pub fn version(self) -> Version
+        ensures { λ r. ⌜ r ≡ versionOf self ⌝ }
     {
-        if self.edition < 1 {
-            return false;
+        match self {
+            Sheet::Version1 {
+                heading: _,
+                totals: _,
+            } => Version::One,
+            Sheet::Version2 {
+                heading: _,
+                split: _,
+                sets: _,
+            } => Version::Two,
         }
-        if 2 < self.edition {
-            return false;
+    }
+
+    // The sheet's row: its numbers in the order of the layout, with zeros where version 1 has none.
+    pub(crate) fn row(self) -> [u64; PLACES]
+        ensures { λ r. ⌜ r ≡ sheetRow self ⌝ }
+    {
+        match self {
+            Sheet::Version1 { heading, totals } => row_of(1, heading, totals, 0, Totals::none()),
+            Sheet::Version2 {
+                heading,
+                split,
+                sets,
+            } => {
+                let settled = sets.settled;
+                let forecast = sets.forecast;
+                row_of(2, heading, settled, split, forecast)
+            }
         }
-        if !calendar::day::is_day(self.date) {
-            return false;
+    }
+
+    // The sheet in the other version: all sales as settled with the split not known, or both sets added.
+    pub fn converted(self) -> Sheet
+        ensures { λ r. ⌜ r ≡ converted self ⌝ }
+    {
+        match self {
+            Sheet::Version1 { heading, totals } => Sheet::Version2 {
+                heading,
+                split: 0,
+                sets: TwoSets {
+                    forecast: Totals::none(),
+                    settled: totals,
+                },
+            },
+            Sheet::Version2 {
+                heading,
+                split: _,
+                sets,
+            } => Sheet::Version1 {
+                heading,
+                totals: sets.both(),
+            },
         }
-        if LARGEST_COUNT < self.movement {
-            return false;
-        }
-        if LARGEST_COUNT < self.batches {
-            return false;
-        }
-        let totals = self.totals;
-        totals_allowed(totals)
     }
 }

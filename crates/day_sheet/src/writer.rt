@@ -1,11 +1,8 @@
 // Writing a day sheet.
 ghost use mathlib.Core.Path.{_≡_};
-ghost use mathlib.Core.List.{_++_};
-ghost use Prim.Native.Nat.{_≤_};
-ghost use lib.ListN.{length, take, drop};
-ghost use Rattle.day_sheet.specs.Layout.{bytesOf};
-ghost use Rattle.day_sheet.specs.Halves.{frontBytes, restBytes};
-ghost use Rattle.day_sheet.specs.Reading.{Writes};
+ghost use lib.ListN.{length};
+ghost use Rattle.day_sheet.specs.FirstPlaces.{RoomFor, filledWith};
+ghost use Rattle.day_sheet.specs.Writing.{PutInto, Writes};
 use crate::layout;
 use crate::number::Form;
 use crate::sheet::Sheet;
@@ -17,51 +14,45 @@ pub enum SheetWritten {
     Refused(Refusal),
 }
 
-// Fills the places up to the batches.
-fn fill_front(sheet: Sheet, out: &mut [u8])
-    requires { ⌜ 52 ≤ length (now out) ⌝ }
-    ensures { λ _. ⌜ now (out .exit) ≡ frontBytes sheet ++ drop 20 (now (out .entry)) ⌝ }
+// Fills the mark, and behind it the numbers' places, one behind the other.
+fn fill(numbers: &[u64], out: &mut [u8])
+    requires { ⌜ RoomFor (length (now numbers)) (now out) ⌝ }
+    ensures { λ _. ⌜ now (out .exit) ≡ filledWith (now (numbers .entry)) (now (out .entry)) ⌝ }
 {
-    Form::Bytes.put_at(layout::MARK, 0, layout::VERSION, out);
-    Form::Bytes.put_at(layout::VERSION_1, layout::VERSION, layout::EDITION, out);
-    Form::Bytes.put_at(sheet.edition, layout::EDITION, layout::DATE, out);
-    Form::Digits.put_at(sheet.date, layout::DATE, layout::MOVEMENT, out);
-    Form::Digits.put_at(sheet.movement, layout::MOVEMENT, layout::BATCHES, out);
+    Form::Bytes.put_at(layout::MARK, 0, layout::MARK_WIDTH, out);
+    let mut at = layout::MARK_WIDTH;
+    let mut number = 0;
+    while number < numbers.len() {
+        let place = layout::place_of(number);
+        let form = place.form;
+        let end = at + place.width;
+        form.put_at(numbers[number], at, end, out);
+        at = end;
+        number += 1;
+    }
 }
 
-// Fills the places from the batches on.
-fn fill_rest(sheet: Sheet, out: &mut [u8])
-    requires { ⌜ 52 ≤ length (now out) ⌝ }
-    ensures { λ _. ⌜ now (out .exit) ≡ take 20 (now (out .entry)) ++ (restBytes sheet ++ drop 52 (now (out .entry))) ⌝ }
+// Puts a sheet, whatever its numbers are, into the first bytes of the output: 2, or done.
+pub(crate) fn put(sheet: Sheet, out: &mut [u8]) -> SheetWritten
+    ensures { λ r. ⌜ PutInto sheet (now (out .entry)) r (now (out .exit)) ⌝ }
 {
-    let totals = sheet.totals;
-    let amounts = totals.amounts;
-    Form::Bytes.put_at(sheet.batches, layout::BATCHES, layout::SALES, out);
-    Form::Bytes.put_at(totals.sales, layout::SALES, layout::GROSS, out);
-    Form::Bytes.put_at(amounts.gross, layout::GROSS, layout::DISCOUNT, out);
-    Form::Bytes.put_at(amounts.discount, layout::DISCOUNT, layout::NET, out);
-    Form::Bytes.put_at(amounts.net, layout::NET, layout::WIDTH, out);
+    let version = sheet.version();
+    let width = version.width();
+    if out.len() < width {
+        return SheetWritten::Refused(Refusal::nowhere(Cause::OutputTooShort));
+    }
+    let row = sheet.row();
+    let places = version.places();
+    fill(&row[..places], out);
+    SheetWritten::Written
 }
 
-// Fills the first 52 bytes of an output that has so many.
-fn fill(sheet: Sheet, out: &mut [u8])
-    requires { ⌜ 52 ≤ length (now out) ⌝ }
-    ensures { λ _. ⌜ now (out .exit) ≡ bytesOf sheet ++ drop 52 (now (out .entry)) ⌝ }
-{
-    fill_front(sheet, out);
-    fill_rest(sheet, out);
-}
-
-// Writes a sheet into the first 52 bytes of the output: 17, 2, or done. Refused, it changes nothing.
+// Writes a sheet into the first bytes of the output, as many as its version has: 17, 2, or done. Refused, it changes nothing.
 pub fn write(sheet: Sheet, out: &mut [u8]) -> SheetWritten
     ensures { λ r. ⌜ Writes sheet (now (out .entry)) r (now (out .exit)) ⌝ }
 {
     if !sheet.is_allowed() {
         return SheetWritten::Refused(Refusal::nowhere(Cause::SheetNumbersNotAllowed));
     }
-    if out.len() < layout::WIDTH {
-        return SheetWritten::Refused(Refusal::nowhere(Cause::OutputTooShort));
-    }
-    fill(sheet, out);
-    SheetWritten::Written
+    put(sheet, out)
 }

@@ -1,102 +1,129 @@
--- `day_sheet::reader::read_numbers` meets its contract: the tests that led to a return pick the case of `readNumbers`.
-use mathlib.Core.Path.{sym, _∙_, ap}
-use borrow.Author.Tests.{not-true, not-false}
-use lib.Dec.{lit<}
-use Rattle.day_sheet.specs.declared.reader.SheetRead.the-variants.{Read}
-use Rattle.day_sheet.specs.Sheet.{sheetAllowed}
-use Rattle.day_sheet.proofs.Places.{in-sheet}
-use Rattle.day_sheet.proofs.Readings.{this-version, another-version, no-digits, not-allowed, allowed}
+-- `day_sheet::reader::read_numbers` meets its contract. The invariant: the numbers read so far, and those of the places still to come, are all numbers, and the bytes
+-- reach as far.
+use Prim.Native.Nat.{ℕ, _+_, _-_, _≤_, _<_}
+use mathlib.Core.Path.{_≡_, refl, sym, _∙_, ap}
+use mathlib.Core.List.{List, _∷_, _++_, append-nil}
+use native.Mathlib.Omega.{arith}
 use borrow.Author.Needs.{needs}
+use lib.ListN.{length, take, drop, length-take, length-set}
+use lib.Seq.{take-all}
+use Rattle.day_sheet.specs.declared.layout.Place.{Place}
+use Rattle.day_sheet.specs.Layout.{tableWidth, fromPlaces}
+use Rattle.day_sheet.specs.FirstPlaces.{firstPlaces}
+use Rattle.day_sheet.proofs.Places.{next-width, next-number, at-most-eight, none-left, one-more}
 use Rattle.day_sheet.proofs.reader.read_numbers.Statement.{statement}
 use Rattle.day_sheet.proofs.reader.read_numbers.Tie as tie
 
-sub-value-of-bytes : tie.Need-sub-value-of-bytes
-sub-value-of-bytes c = search needs
+abbrev Inv-loop : tie.InvT-loop
+Inv-loop bytes numbers₀ at₀ number₀ numbers at number =
+    (number ≤ length numbers₀) ×
+    (length numbers ≡ length numbers₀) ×
+    (at + tableWidth (drop number (firstPlaces (length numbers₀))) ≤ length bytes) ×
+    (take number numbers ++ fromPlaces (drop number (firstPlaces (length numbers₀))) (drop at bytes) ≡
+    fromPlaces (firstPlaces (length numbers₀)) (drop 3 bytes))
 
-part-value-of-bytes-start : tie.Need-part-value-of-bytes-start
-part-value-of-bytes-start c = search needs
+abbrev μ-loop : tie.MeasureT-loop
+μ-loop bytes numbers₀ at₀ number₀ numbers at number = length numbers₀ - number
 
-part-value-of-bytes-end : tie.Need-part-value-of-bytes-end
-part-value-of-bytes-end c = search needs
+loop-holds : tie.Need-loop-holds Inv-loop μ-loop
+loop-holds c = (search needs, refl, c .before .before .pre .1, refl)
 
-value-of-bytes-requires : tie.Need-value-of-bytes-requires
-value-of-bytes-requires c κs = search needs
+place-of-requires : tie.Need-place-of-requires Inv-loop μ-loop
+place-of-requires c κs = omega (arith, c .before .loop .inv .1, c .before .before .before .before .pre .0)
 
-refused-requires : tie.Need-refused-requires
-refused-requires c κs = search needs
+add-end : tie.Need-add-end Inv-loop μ-loop
+add-end c =
+    let l = c .before .before .before .loop in
+    let start = c .before .before .before .before .before .before in
+    let taken : l .number < length (start .args .numbers .now) = omega (arith, l .inv .1, c .before .before .loop-test .taken) in
+    let next = next-width (length (start .args .numbers .now)) (l .number) (start .pre .0) taken (c .before .place-of .ensures) in
+    search needs
 
-returns : tie.Need-returns
+sub-value : tie.Need-sub-value Inv-loop μ-loop
+sub-value c = search needs
+
+part-value-start : tie.Need-part-value-start Inv-loop μ-loop
+part-value-start c =
+    let l = c .before .before .before .loop in
+    let start = c .before .before .before .before .before .before in
+    let taken : l .number < length (start .args .numbers .now) = omega (arith, l .inv .1, c .before .before .loop-test .taken) in
+    let next = next-width (length (start .args .numbers .now)) (l .number) (start .pre .0) taken (c .before .place-of .ensures) in
+    search needs
+
+part-value-end : tie.Need-part-value-end Inv-loop μ-loop
+part-value-end c =
+    let l = c .before .before .before .loop in
+    let start = c .before .before .before .before .before .before in
+    let taken : l .number < length (start .args .numbers .now) = omega (arith, l .inv .1, c .before .before .loop-test .taken) in
+    let next = next-width (length (start .args .numbers .now)) (l .number) (start .pre .0) taken (c .before .place-of .ensures) in
+    search needs
+
+value-requires : tie.Need-value-requires Inv-loop μ-loop
+value-requires c κs =
+    let l = c .before .before .before .before .loop in
+    let s = c .before .before .before .before .before .before .before .args .bytes .now in
+    omega (arith, at-most-eight (l .number) (c .before .before .place-of .ensures), length-take (l .at + c .before .before .place-of .result .width - l .at) (drop (l .at) s))
+
+mul-numbers : tie.Need-mul-numbers Inv-loop μ-loop
+mul-numbers c = search needs
+
+slice-write-numbers : tie.Need-slice-write-numbers Inv-loop μ-loop
+slice-write-numbers c = search needs
+
+add-number : tie.Need-add-number Inv-loop μ-loop
+add-number c = search needs
+
+loop-less : tie.Need-loop-less Inv-loop μ-loop
+loop-less c = search needs
+
+loop-again : tie.Need-loop-again Inv-loop μ-loop
+loop-again c =
+    let d = c .before .before in
+    let l = d .before .before .before .loop in
+    let start = d .before .before .before .before .before .before in
+    let n = length (start .args .numbers .now) in
+    let few = start .pre .0 in
+    let taken : l .number < n = omega (arith, l .inv .1, d .before .before .loop-test .taken) in
+    let is = d .before .place-of .ensures in
+    let wide = next-width n (l .number) few taken is in
+    let next = next-number n (l .number) few taken is (start .args .bytes .now) (l .at) in
+    let rest = fromPlaces (drop (l .number + 1) (firstPlaces n)) (drop (l .at + d .before .place-of .result .width) (start .args .bytes .now)) in (
+      search needs,
+      simp length-set (l .inv .1),
+      omega arith,
+      one-more (l .numbers) rest (l .number) (c .value .result) (d .before .before .loop-test .taken) ∙
+          ap (λ (t : List ℕ). take (l .number) (l .numbers) ++ t) (ap (λ (v : ℕ). v ∷ rest) (c .value .ensures) ∙ sym next) ∙ l .inv .3,
+    )
+
+same-length : tie.Need-same-length Inv-loop μ-loop
+same-length c = c .before .loop .inv .1
+
+returns : tie.Need-returns Inv-loop μ-loop
+unfolding fromPlaces
 returns c =
-    let s = c .before .before .before .before .before .args .bytes .now in
-    c .refused .ensures ∙ sym (another-version s (λ e. c .before .if1 .taken (c .before .before .value-of-bytes .ensures ∙ sym (in-sheet 0 s (lit< tt)) ∙ e)))
-
-sub-holds-only : tie.Need-sub-holds-only
-sub-holds-only c = search needs
-
-part-holds-only-start : tie.Need-part-holds-only-start
-part-holds-only-start c = search needs
-
-part-holds-only-end : tie.Need-part-holds-only-end
-part-holds-only-end c = search needs
-
-holds-only-requires : tie.Need-holds-only-requires
-holds-only-requires c κs = search needs
-
-refused-requires-2 : tie.Need-refused-requires-2
-refused-requires-2 c κs = search needs
-
-returns-2 : tie.Need-returns-2
-returns-2 c =
-    let s = c .before .before .before .before .before .before .before .before .args .bytes .now in
-    c .refused2 .ensures ∙
-    sym (no-digits s (this-version s (c .before .before .before .before .before .value-of-bytes .ensures) (c .before .before .before .before .if1 .left))
-    (sym (c .before .before .holds-only .ensures) ∙ not-true _ (c .before .if2 .taken)))
-
-sheet-in-requires : tie.Need-sheet-in-requires
-sheet-in-requires c κs = (c .before .before .before .before .before .before .before .pre, sym (c .before .holds-only .ensures) ∙ not-false _ (c .if2 .left))
-
-is-allowed-requires : tie.Need-is-allowed-requires
-is-allowed-requires c κs = search needs
-
-returns-3 : tie.Need-returns-3
-returns-3 c =
-    let d = c .before .before .before in
-    let s = d .before .before .before .before .before .before .before .args .bytes .now in
-    ap Read (c .before .before .sheet-in .ensures) ∙
-    sym (allowed s (this-version s (d .before .before .before .before .value-of-bytes .ensures) (d .before .before .before .if1 .left))
-    (sym (d .before .holds-only .ensures) ∙ not-false _ (d .if2 .left))
-    (sym (ap sheetAllowed (c .before .before .sheet-in .ensures)) ∙ sym (c .before .is-allowed .ensures) ∙ c .if3 .taken))
-
-refused-requires-3 : tie.Need-refused-requires-3
-refused-requires-3 c κs = search needs
-
-returns-4 : tie.Need-returns-4
-returns-4 c =
-    let d = c .before .before .before .before in
-    let s = d .before .before .before .before .before .before .before .args .bytes .now in
-    c .refused3 .ensures ∙
-    sym (not-allowed s (this-version s (d .before .before .before .before .value-of-bytes .ensures) (d .before .before .before .if1 .left))
-    (sym (d .before .holds-only .ensures) ∙ not-false _ (d .if2 .left))
-    (sym (ap sheetAllowed (c .before .before .before .sheet-in .ensures)) ∙ sym (c .before .before .is-allowed .ensures) ∙ c .before .if3 .left))
+    let l = c .before .loop in
+    let start = c .before .before .before .before in
+    let done = none-left (length (start .args .numbers .now)) (l .number) (omega (arith, l .inv .1, c .loop-test .left)) in
+    sym (append-nil _ ∙ take-all (l .number) (l .numbers) (c .loop-test .left)) ∙
+    sym (ap (λ (ps : List Place). take (l .number) (l .numbers) ++ fromPlaces ps (drop (l .at) (start .args .bytes .now))) done) ∙ l .inv .3
 
 pub read-numbers-spec : {M : Type 1} → statement M
 read-numbers-spec =
     tie.close
     (tie.spec
-    sub-value-of-bytes
-    part-value-of-bytes-start
-    part-value-of-bytes-end
-    value-of-bytes-requires
-    refused-requires
-    returns
-    sub-holds-only
-    part-holds-only-start
-    part-holds-only-end
-    holds-only-requires
-    refused-requires-2
-    returns-2
-    sheet-in-requires
-    is-allowed-requires
-    returns-3
-    refused-requires-3
-    returns-4)
+    Inv-loop
+    μ-loop
+    loop-holds
+    place-of-requires
+    add-end
+    sub-value
+    part-value-start
+    part-value-end
+    value-requires
+    mul-numbers
+    slice-write-numbers
+    add-number
+    loop-less
+    loop-again
+    same-length
+    returns)
