@@ -1,57 +1,71 @@
--- The sheet of an accepted file has numbers that are allowed: the file keeps 01's rules, and its numbers are the plain ones. Both sets added are the totals of all sales,
--- since no sum leaves 64 bits.
+-- The sheet of an accepted file has numbers that are allowed: the file keeps 01's rules, and its numbers are the plain ones. Converted, it is document 01's: both sets added
+-- are the totals of all sales, since no sum leaves 64 bits.
 use Prim.Native.Nat.{ℕ, _≤_}
-use mathlib.Core.Path.{_≡_, sym, _∙_, ap, subst}
+use mathlib.Core.Path.{_≡_, refl, sym, _∙_, ap, subst}
 use mathlib.Core.List.{List}
-use mathlib.Core.Bool.{true}
+use mathlib.Core.Bool.{Bool, true}
 use native.Mathlib.Omega.{arith}
 use borrow.Author.Tests.{le-leb, lt-ltb, eq-eqb}
+use lib.ListN.{length}
+use Rattle.text.proofs.Alphabets.{both}
 use Rattle.text.proofs.Numbers.{value-below}
 use Rattle.text.specs.Part.{positions}
 use Rattle.calendar.specs.Day.{isDay}
 use Rattle.edition.proofs.Editions.{known-between}
+use Rattle.totals.specs.declared.amounts.Totals.{Totals}
 use Rattle.totals.specs.Sum.{top}
-use Rattle.totals.specs.TwoSets.{bothSets, summed}
+use Rattle.totals.specs.TwoSets.{setsOf, bothSets, summed}
 use Rattle.totals.proofs.Totals.{Figure, sales, gross, discount, net, figureOf, no-loss}
 use Rattle.card_run.specs.declared.answer.Accepted.{Accepted as Numbers}
 use Rattle.card_run.specs.declared.answer.CardAnswer.the-variants.{Accepted}
 use Rattle.card_file.specs.CardFile.{checkOf}
 use Rattle.card_kept.specs.Fields.{numberAt}
-use Rattle.card_kept.specs.Kept.{isSale, Kept, salesOf}
+use Rattle.card_kept.specs.Kept.{Transaction, isSale, isForecast, isSettled, Kept, picked, transactionsOf, salesOf}
 use Rattle.card_kept.specs.Numbers.{TotalsOf, Numbers as Plain}
 use Rattle.card_kept.proofs.FieldsKept.{part-length}
 use Rattle.card_kept.proofs.KeptMeansKept.{kept-means-kept, plain-numbers}
-use Rattle.day_sheet.specs.Sheet.{totalsAllowed, sheetAllowed}
+use Rattle.day_sheet.specs.declared.sheet.Heading.{Heading}
+use Rattle.day_sheet.specs.declared.sheet.Sheet.the-variants.{Version1, Version2}
+use Rattle.day_sheet.specs.Allowed.{withinLimits, setAllowed, setsAllowed, headingAllowed, splitAllowed, sheetAllowed}
+use Rattle.day_sheet.specs.Conversion.{converted}
 use Rattle.card_sheet.specs.SheetOf.{sheetFrom}
-use Rattle.card_sheet.specs.PlainSheet.{plainSheet}
+use Rattle.card_sheet.specs.PlainSheet.{plainHeading, plainSheet, plainSheet1}
 use Rattle.card_sheet.proofs.Counts.{batches-below, picked-counted}
 
--- both sets added are the totals of all sales
-pub all-sales : {edition : ℕ} {bytes : List ℕ} (k : Kept edition bytes) (a : Numbers) → Plain (k .file) a → TotalsOf (salesOf (k .file)) (bothSets (a .totals))
-unfolding figureOf
-all-sales k a p = subst (TotalsOf (salesOf (k .file))) (sym (no-loss (a .totals .forecast) (a .totals .settled) fits)) (p .both)
-  where
-    fits : (f : Figure) → figureOf f (summed (a .totals)) ≤ top
-    fits sales = omega (arith, ap (λ t. t .sales) (p .both .plain), p .records, p .records-below, picked-counted isSale (k .file))
-    fits gross = omega (arith, p .both .gross-below)
-    fits discount = omega (arith, p .both .discount-below)
-    fits net = omega (arith, p .both .net-below)
+module _ {edition : ℕ} {bytes : List ℕ} (k : Kept edition bytes) (a : Numbers) (p : Plain (k .file) a) where
+  -- a set counts some of the file's records, of which there are at most 999999
+  few : (test : Transaction → Bool) (t : Totals) → TotalsOf (picked test (transactionsOf (k .file))) t → t .sales ≤ 999999
+  few test t of = omega (arith, ap (λ u. u .sales) (of .plain), p .records, p .records-below, picked-counted test (k .file))
 
--- so the sheet is document 01's
-pub is-plain : {edition : ℕ} {bytes : List ℕ} (k : Kept edition bytes) (a : Numbers) → Plain (k .file) a → sheetFrom edition a ≡ plainSheet edition (k .file)
-is-plain {edition} k a p =
-    let all = all-sales k a p in
-    λ i. record {
-      edition = edition;
-      date = p .date i;
-      movement = p .movement i;
-      batches = p .batches i;
-      totals = all .plain i;
-    }
+  within-limits : (test : Transaction → Bool) (t : Totals) → TotalsOf (picked test (transactionsOf (k .file))) t → withinLimits t ≡ true
+  unfolding withinLimits
+  within-limits test t of = rw (le-leb _ _ (few test t of), lt-ltb _ _ (of .gross-below), lt-ltb _ _ (of .discount-below), lt-ltb _ _ (of .net-below))
 
-module _ {edition : ℕ} {bytes : List ℕ} (k : Kept edition bytes) where
-  date-right : isDay (numberAt 9 16 (k .file .a0)) ≡ true
-  date-right = k .keeps .a0 .fields .1 .0 .1
+  set-allowed : (test : Transaction → Bool) (t : Totals) → TotalsOf (picked test (transactionsOf (k .file))) t → setAllowed t ≡ true
+  unfolding setAllowed
+  set-allowed test t of = both (within-limits test t of) (eq-eqb _ _ (of .agree))
+
+  -- both sets added are the totals of all sales
+  all-sales : TotalsOf (salesOf (k .file)) (bothSets (a .totals))
+  unfolding figureOf
+  all-sales = subst (TotalsOf (salesOf (k .file))) (sym (no-loss (a .totals .forecast) (a .totals .settled) fits)) (p .both)
+    where
+      fits : (f : Figure) → figureOf f (summed (a .totals)) ≤ top
+      fits sales = omega (arith, few isSale (summed (a .totals)) (p .both))
+      fits gross = omega (arith, p .both .gross-below)
+      fits discount = omega (arith, p .both .discount-below)
+      fits net = omega (arith, p .both .net-below)
+
+  plain-heading : _≡_ {A = Heading} (record { edition = edition; date = a .date; movement = a .movement; batches = a .batches }) (plainHeading edition (k .file))
+  plain-heading = λ i. record { edition = edition; date = p .date i; movement = p .movement i; batches = p .batches i }
+
+  -- so the sheet is the papers', and in version 1 document 01's
+  pub is-plain : sheetFrom edition a ≡ plainSheet edition (k .file)
+  is-plain = λ i. Version2 (plain-heading i) 1 (setsOf (p .forecast .plain i) (p .settled .plain i))
+
+  pub converted-plain : converted (sheetFrom edition a) ≡ plainSheet1 edition (k .file)
+  unfolding converted
+  converted-plain = λ i. Version1 (plain-heading i) (all-sales .plain i)
 
   -- six digits write a number up to 999999
   movement-below : numberAt 23 28 (k .file .a0) ≤ 999999
@@ -61,23 +75,23 @@ module _ {edition : ℕ} {bytes : List ℕ} (k : Kept edition bytes) where
       let below = value-below (positions 23 28 (k .file .a0)) (k .keeps .a0 .fields .1 .1 .1 .0) in
       omega (arith, rw six at below)
 
-  allowed : (a : Numbers) → Plain (k .file) a → sheetAllowed (sheetFrom edition a) ≡ true
-  unfolding sheetAllowed totalsAllowed
-  allowed a p =
-      let all = all-sales k a p in
+  heading-allowed : headingAllowed (plainHeading edition (k .file)) ≡ true
+  unfolding headingAllowed
+  heading-allowed =
       let between = known-between edition (k .edition-known) in
-      rw (
-        le-leb _ _ (between .0),
-        le-leb _ _ (between .1),
-        ap isDay (p .date) ∙ date-right,
-        le-leb (a .movement) 999999 (omega (arith, p .movement, movement-below)),
-        le-leb (a .batches) 999999 (omega (arith, p .batches, p .records, p .records-below, batches-below (k .file))),
-        le-leb (bothSets (a .totals) .sales) 999999 (omega (arith, ap (λ t. t .sales) (all .plain), p .records, p .records-below, picked-counted isSale (k .file))),
-        lt-ltb _ _ (all .gross-below),
-        lt-ltb _ _ (all .discount-below),
-        lt-ltb _ _ (all .net-below),
-        eq-eqb _ _ (all .agree),
-      )
+      let few-batches : length (k .file .batches) ≤ 999999 = omega (arith, p .records, p .records-below, batches-below (k .file)) in
+      let date-right : isDay (numberAt 9 16 (k .file .a0)) ≡ true = k .keeps .a0 .fields .1 .0 .1 in
+      rw (le-leb _ _ (between .0), le-leb _ _ (between .1), le-leb _ _ movement-below, le-leb _ _ few-batches, date-right)
+
+  sets-allowed : setsAllowed (a .totals) ≡ true
+  unfolding setsAllowed
+  sets-allowed =
+      both (set-allowed isSettled (a .totals .settled) (p .settled))
+      (both (set-allowed isForecast (a .totals .forecast) (p .forecast)) (within-limits isSale (summed (a .totals)) (p .both)))
+
+  allowed : sheetAllowed (sheetFrom edition a) ≡ true
+  unfolding sheetAllowed splitAllowed
+  allowed = both (ap headingAllowed plain-heading ∙ heading-allowed) (both sets-allowed refl)
 
 pub accepted-allowed : (edition : ℕ) (bytes : List ℕ) (a : Numbers) → checkOf edition bytes ≡ Accepted a → sheetAllowed (sheetFrom edition a) ≡ true
 accepted-allowed edition bytes a e =

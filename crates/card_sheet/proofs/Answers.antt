@@ -10,17 +10,17 @@ use Rattle.card_run.specs.declared.answer.CardAnswer.{CardAnswer}
 use Rattle.card_run.specs.declared.answer.CardAnswer.the-variants.{GoingOn, Accepted, Refused}
 use Rattle.card_file.proofs.Rooms.{has-room, was-checked}
 use Rattle.day_sheet.specs.declared.sheet.Sheet.{Sheet}
-use Rattle.day_sheet.specs.Reading.{writeResult}
+use Rattle.day_sheet.specs.Writing.{putResult, writeResult}
 use Rattle.card_sheet.specs.SheetOf.{sheetFrom, sheetAnswer, sheetInto, SheetOf}
 use Rattle.card_sheet.proofs.Allowed.{accepted-allowed}
 
 -- the sheet of an accepted file is written
 written : (edition : ℕ) (file out : List ℕ) (a : Numbers) → sheetAnswer edition file (length out) ≡ Accepted a → writeResult (sheetFrom edition a) out ≡ sheetInto edition (Accepted a) out
-unfolding sheetInto writeResult
+unfolding sheetInto writeResult putResult
 written edition file out a e =
     rw (
-      accepted-allowed edition file a (was-checked edition file 52 (length out) a e),
-      le-leb 52 (length out) (has-room edition file 52 (length out) a e),
+      accepted-allowed edition file a (was-checked edition file 81 (length out) a e),
+      le-leb 81 (length out) (has-room edition file 81 (length out) a e),
     )
 
 -- an answer, and the output that goes with it

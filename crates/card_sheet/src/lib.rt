@@ -3,30 +3,35 @@ ghost use mathlib.Core.Path.{_≡_};
 ghost use Rattle.card_sheet.specs.SheetOf.{sheetFrom, SheetOf};
 use card_run::answer::Accepted;
 use card_run::answer::CardAnswer;
+use day_sheet::layout::WIDTH_2;
+use day_sheet::sheet::Heading;
 use day_sheet::sheet::Sheet;
 
-// The bytes of a sheet.
-const WIDTH: usize = 52;
+// The split of a file's sales is known.
+const KNOWN: u64 = 1;
 
-// The sheet of an accepted file: its numbers but the count of records, both sets of totals added, and the edition.
+// The sheet of an accepted file: its numbers but the count of records and the adjustments, and the edition.
 pub fn sheet_from(edition: u64, numbers: Accepted) -> Sheet
     ensures { λ r. ⌜ r ≡ sheetFrom edition numbers ⌝ }
 {
     let sets = numbers.totals;
-    Sheet {
-        edition,
-        date: numbers.date,
-        movement: numbers.movement,
-        batches: numbers.batches,
-        totals: sets.both(),
+    Sheet::Version2 {
+        heading: Heading {
+            edition,
+            date: numbers.date,
+            movement: numbers.movement,
+            batches: numbers.batches,
+        },
+        split: KNOWN,
+        sets,
     }
 }
 
-// Writes the day sheet of an accepted file into the first 52 bytes of the output; refused, it changes nothing.
+// Writes the day sheet of an accepted file into the first 81 bytes of the output; refused, it changes nothing.
 pub fn sheet_of(edition: u64, file: &[u8], out: &mut [u8]) -> CardAnswer
     ensures { λ r. ⌜ SheetOf edition (now (file .entry)) (now (out .entry)) r (now (out .exit)) ⌝ }
 {
-    let answer = card_file::room::check_with_room(edition, file, WIDTH, out.len());
+    let answer = card_file::room::check_with_room(edition, file, WIDTH_2, out.len());
     match answer {
         CardAnswer::GoingOn => answer,
         CardAnswer::Refused(_) => answer,
