@@ -9,3 +9,4 @@ pub mod Conversions
 pub mod Tables
 pub mod RoundTrip
 pub mod ThereAndBack
+pub mod SheetRows

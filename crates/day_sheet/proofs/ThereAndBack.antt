@@ -7,7 +7,6 @@ use mathlib.Core.Bool.{Bool, true, false, _&&_, _||_}
 use native.Mathlib.Omega.{arith}
 use native.Mathlib.Nat.{zero-add}
 use borrow.Author.Tests.{le-leb, lt-ltb, eq-eqb, eqb-true}
-use lib.ListN.{getD}
 use lib.Dec.{eqb}
 use lib.Pow.{areBytes}
 use Rattle.text.proofs.Alphabets.{both, both-left, both-right}
@@ -20,10 +19,11 @@ use Rattle.day_sheet.specs.declared.sheet.Heading.{Heading}
 use Rattle.day_sheet.specs.declared.sheet.Sheet.{Sheet}
 use Rattle.day_sheet.specs.declared.sheet.Sheet.the-variants.{Version1, Version2}
 use Rattle.day_sheet.specs.declared.reader.SheetRead.the-variants.{Read}
-use Rattle.day_sheet.specs.Sheet.{sheetRow, bytesOf}
+use Rattle.day_sheet.specs.Sheet.{bytesOf}
 use Rattle.day_sheet.specs.Allowed.{withinLimits, setAllowed, setsAllowed, headingAllowed, noneOf, splitAllowed, sheetAllowed}
 use Rattle.day_sheet.specs.Reading.{readOf}
 use Rattle.day_sheet.specs.Writing.{writeAnswer, writeResult}
+use Rattle.day_sheet.specs.Answer.{readRow}
 use Rattle.day_sheet.specs.Conversion.{converted, convertAnswer, convertResult, bytesOfRead, convertedBytes}
 use Rattle.day_sheet.proofs.Allowances.{Within, within, set-within, set-agrees, sum-plain, SetsWithin, sets-within}
 use Rattle.day_sheet.proofs.RoundTrip.{reads-back, read-allowed, the-one-we-write}
@@ -90,8 +90,8 @@ is-none t e =
     λ i. record { sales = s i; amounts = record { gross = g i; discount = d i; net = n i } }
 
 -- there and back, of a sheet that tells no split: version 1, or version 2 with split 0
-pub back-again : (s : Sheet) → sheetAllowed s ≡ true → getD (sheetRow s) 9 0 ≡ 0 → converted (converted s) ≡ s
-unfolding converted sheetAllowed splitAllowed sheetRow
+pub back-again : (s : Sheet) → sheetAllowed s ≡ true → readRow (Read s) .split ≡ 0 → converted (converted s) ≡ s
+unfolding converted sheetAllowed splitAllowed readRow
 back-again (Version1 h t) e z = ap (Version1 h) (none-added t (both-right (headingAllowed h) (setAllowed t) e))
 back-again (Version2 h split sets) e z =
     let allowed = both-right (headingAllowed h) (setsAllowed sets && splitAllowed split (sets .forecast)) e in
@@ -117,6 +117,6 @@ module _ (l : List ℕ) (s : Sheet) (e : readOf l ≡ Read s) where
   leaves-as-written out = rw (e, converted-allowed s (read-allowed l s e))
 
   -- and the way back leads to the same bytes
-  pub same-bytes : areBytes l ≡ true → getD (sheetRow s) 9 0 ≡ 0 → convertedBytes (convertedBytes l) ≡ l
+  pub same-bytes : areBytes l ≡ true → readRow (Read s) .split ≡ 0 → convertedBytes (convertedBytes l) ≡ l
   same-bytes bytes z =
       ap bytesOfRead converted-readable ∙ ap bytesOf (back-again s (read-allowed l s e) z) ∙ the-one-we-write l s e bytes

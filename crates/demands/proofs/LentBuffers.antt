@@ -3,7 +3,7 @@
 use Prim.Native.Nat.{ℕ}
 use mathlib.Core.Path.{_≡_, refl, sym, _∙_, ap}
 use mathlib.Core.List.{List}
-use mathlib.Core.Bool.{Bool, true, false, cond, _&&_}
+use mathlib.Core.Bool.{Bool, true, false, cond}
 use lib.ListN.{length}
 use lib.Dec.{leb}
 use Rattle.refusal.specs.declared.Refusal.{Refusal}
@@ -17,8 +17,12 @@ use Rattle.card_sheet.specs.SheetOf.{sheetInto}
 use Rattle.day_sheet.specs.declared.sheet.Sheet.{Sheet}
 use Rattle.day_sheet.specs.declared.writer.SheetWritten.{SheetWritten}
 use Rattle.day_sheet.specs.declared.writer.SheetWritten.the-variants.{Written, Refused as notWritten}
-use Rattle.day_sheet.specs.Sheet.{sheetAllowed}
-use Rattle.day_sheet.specs.Reading.{writeAnswer, writeResult, Writes}
+use Rattle.day_sheet.specs.declared.reader.SheetRead.{SheetRead}
+use Rattle.day_sheet.specs.declared.reader.SheetRead.the-variants.{Read, Refused as unreadable}
+use Rattle.day_sheet.specs.Allowed.{sheetAllowed}
+use Rattle.day_sheet.specs.Reading.{readOf}
+use Rattle.day_sheet.specs.Writing.{sheetWidth, putAnswer, putResult, writeAnswer, writeResult}
+use Rattle.day_sheet.specs.Conversion.{converted, convertAnswer, convertResult}
 use Rattle.day_sheet.specs.Answer.{noSheet, writtenRow}
 use Rattle.demands.specs.LentBuffers.{IfRefused, RefusedLeavesAlone}
 
@@ -31,29 +35,39 @@ card-alone into out after same (Accepted a) e refused = absurd (refused refl)
 card-alone into out after same (Refused r) e refused =
     record { lent = e ∙ same r; counts = refl }
 
--- writing a sheet: it is refused where the numbers are not allowed, or the output is too short
-not-written : (allowed wide : Bool) (r s : Refusal) (written out : List ℕ) {answer : SheetWritten} →
-    answer ≡ cond allowed (cond wide Written (notWritten r)) (notWritten s) → (writtenRow answer .refusal ≡ noRefusal → ⊥) → cond (allowed && wide) written out ≡ out
-unfolding writtenRow
-not-written true true r s written out e refused = absurd (refused (ap (λ a. writtenRow a .refusal) e))
-not-written true false r s written out e refused = refl
-not-written false wide r s written out e refused = refl
-
 -- writing answers no numbers
-no-sheet : (answer : SheetWritten) → writtenRow answer .sheet ≡ noSheet
+no-sheet : (answer : SheetWritten) → writtenRow answer ≡ noSheet (writtenRow answer .refusal)
 unfolding writtenRow
 no-sheet Written = refl
 no-sheet (notWritten r) = refl
 
-sheet-alone : (sheet : Sheet) (out : List ℕ) (answer : SheetWritten) (after : List ℕ) → Writes sheet out answer after →
-    IfRefused (writtenRow answer .refusal) (after ≡ out) (writtenRow answer .sheet ≡ noSheet)
-unfolding writeAnswer writeResult
-sheet-alone sheet out answer after w refused =
-    record { lent = w .leaves ∙ not-written (sheetAllowed sheet) (leb 52 (length out)) _ _ _ out (w .answers) refused; counts = no-sheet answer }
+-- where there is no room the output stays
+by-room : (wide : Bool) (r : Refusal) (put out : List ℕ) {answer : SheetWritten} → answer ≡ cond wide Written (notWritten r) →
+    (writtenRow answer .refusal ≡ noRefusal → ⊥) → cond wide put out ≡ out
+unfolding writtenRow
+by-room true r put out e refused = absurd (refused (ap (λ a. writtenRow a .refusal) e))
+by-room false r put out e refused = refl
+
+not-put : (sheet : Sheet) (out : List ℕ) {answer : SheetWritten} → answer ≡ putAnswer sheet (length out) → (writtenRow answer .refusal ≡ noRefusal → ⊥) →
+    putResult sheet out ≡ out
+unfolding putAnswer putResult
+not-put sheet out e refused = by-room (leb (sheetWidth sheet) (length out)) _ _ out e refused
+
+-- writing refuses besides what is not allowed, converting what cannot be read
+not-written : (allowed : Bool) (sheet : Sheet) (out : List ℕ) (r : Refusal) {answer : SheetWritten} →
+    answer ≡ cond allowed (putAnswer sheet (length out)) (notWritten r) → (writtenRow answer .refusal ≡ noRefusal → ⊥) → cond allowed (putResult sheet out) out ≡ out
+not-written true sheet out r e refused = not-put sheet out e refused
+not-written false sheet out r e refused = refl
+
+not-converted : (read : SheetRead) (out : List ℕ) {answer : SheetWritten} → answer ≡ convertAnswer read (length out) →
+    (writtenRow answer .refusal ≡ noRefusal → ⊥) → convertResult read out ≡ out
+unfolding convertAnswer convertResult
+not-converted (Read sheet) out e refused = not-put (converted sheet) out e refused
+not-converted (unreadable r) out e refused = refl
 
 -- THE THEOREM
 pub refused-leaves-alone : RefusedLeavesAlone
-unfolding maskedInto sheetInto
+unfolding maskedInto sheetInto writeAnswer writeResult
 refused-leaves-alone =
     record {
       masking = λ edition file out answer after m.
@@ -62,5 +76,8 @@ refused-leaves-alone =
       sheet-of-file = λ edition file out answer after s.
           let into : CardAnswer → List ℕ = λ a. sheetInto edition a out in
           card-alone into out after (λ r. refl) answer (s .leaves ∙ ap into (sym (s .answers)));
-      writing-sheet = sheet-alone;
+      writing-sheet = λ sheet out answer after w refused.
+          record { lent = w .leaves ∙ not-written (sheetAllowed sheet) sheet out _ (w .answers) refused; counts = no-sheet answer };
+      converting-sheet = λ sheet out answer after c refused.
+          record { lent = c .leaves ∙ not-converted (readOf sheet) out (c .answers) refused; counts = no-sheet answer };
     }

@@ -12,4 +12,5 @@ pub mod MaskedPlaces
 pub mod HiddenDigits
 pub mod LentBuffers
 pub mod RulesKept
+pub mod DaySheets
 pub mod HiddenDigitsExample

@@ -16,13 +16,14 @@ use Rattle.payroll_run.specs.declared.running.Running.{Running as PayrollRunnin
 use Rattle.payroll_file.specs.Answer.{stateRow}
 use Rattle.payroll_kept.specs.FirstFault as payroll-record
 use Rattle.payroll_kept.specs.FirstFaultOfFile as payroll-file
+use Rattle.demands.specs.DaySheets.{SheetThereAndBack, SheetConverted, SheetOfFile}
 use Rattle.demands.specs.Examples.{examples, allAsWritten}
 use Rattle.demands.specs.Feeding.{FedAsWhole, RefusedForGood, BadEdition, AfterAcceptedClose, OnePastTheLast}
 use Rattle.demands.specs.HiddenDigits.{HiddenDigitsReachNothing, MaskedWhereHidden}
 use Rattle.demands.specs.HiddenDigitsExample.{oneFile, otherFile, oneCredit, otherCredit, TwinsThatDiffer}
 use Rattle.demands.specs.InChunks.{AsTheWhole, AfterTheEnd}
 use Rattle.demands.specs.LentBuffers.{RefusedLeavesAlone}
-use Rattle.demands.specs.RulesKept.{CardRulesKept, PayrollRulesKept, SheetThereAndBack}
+use Rattle.demands.specs.RulesKept.{CardRulesKept, PayrollRulesKept}
 
 pub record Demands : Type 0 where
   -- DEMAND 1. "A refusal gives number, record and column .. at the first fault in 01's order, and no lent byte has changed"
@@ -43,6 +44,9 @@ pub record Demands : Type 0 where
   pub payroll-rules-kept : PayrollRulesKept
   -- "A day sheet that we write reads back as the same numbers, and a readable sheet is the one we would write"
   pub sheet-there-and-back : SheetThereAndBack
+  -- "Demand 2's clause on sheets now covers both versions"; "From 1 to 2 and back gives the same bytes"
+  pub sheet-converted : SheetConverted
+  pub sheet-of-file : SheetOfFile
   -- "Feeding records one by one ends as reading the whole does": "Equality with the whole holds for records without LF"
   pub fed-as-whole : (edition : ℕ) (records : List (List ℕ)) → allNoLf records ≡ true → FedAsWhole edition records
   -- "Once refused, every later call gives that same refusal"

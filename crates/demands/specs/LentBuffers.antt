@@ -10,7 +10,8 @@ use Rattle.card_mask.specs.Mask.{Masks}
 use Rattle.card_sheet.specs.SheetOf.{SheetOf}
 use Rattle.day_sheet.specs.declared.sheet.Sheet.{Sheet}
 use Rattle.day_sheet.specs.declared.writer.SheetWritten.{SheetWritten}
-use Rattle.day_sheet.specs.Reading.{Writes}
+use Rattle.day_sheet.specs.Writing.{Writes}
+use Rattle.day_sheet.specs.Conversion.{Converts}
 use Rattle.day_sheet.specs.Answer.{noSheet, writtenRow}
 
 -- "All counts and totals in a refused answer are zero, and lent output is unchanged", whatever that means of what was lent
@@ -28,4 +29,6 @@ pub record RefusedLeavesAlone : Type 0 where
   pub sheet-of-file : (edition : ℕ) (file out : List ℕ) (answer : CardAnswer) (after : List ℕ) → SheetOf edition file out answer after →
       IfRefused (cardFileRow answer .refusal) (after ≡ out) (cardFileRow answer .numbers ≡ noNumbers)
   pub writing-sheet : (sheet : Sheet) (out : List ℕ) (answer : SheetWritten) (after : List ℕ) → Writes sheet out answer after →
-      IfRefused (writtenRow answer .refusal) (after ≡ out) (writtenRow answer .sheet ≡ noSheet)
+      IfRefused (writtenRow answer .refusal) (after ≡ out) (writtenRow answer ≡ noSheet (writtenRow answer .refusal))
+  pub converting-sheet : (sheet out : List ℕ) (answer : SheetWritten) (after : List ℕ) → Converts sheet out answer after →
+      IfRefused (writtenRow answer .refusal) (after ≡ out) (writtenRow answer ≡ noSheet (writtenRow answer .refusal))

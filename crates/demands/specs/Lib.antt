@@ -5,5 +5,6 @@ pub mod InChunks
 pub mod HiddenDigits
 pub mod LentBuffers
 pub mod RulesKept
+pub mod DaySheets
 pub mod HiddenDigitsExample
 pub mod Demands

@@ -6,13 +6,14 @@ use Rattle.card_kept.proofs.FirstFault.{first-fault-of-record, edition-first, f
 use Rattle.payroll_file.proofs.FileRows.{going-stage}
 use Rattle.payroll_kept.proofs.FirstFault as payroll-record
 use Rattle.payroll_kept.proofs.FirstFaultOfFile as payroll-file
+use Rattle.demands.proofs.DaySheets.{sheet-there-and-back, sheet-converted, sheet-of-file}
 use Rattle.demands.proofs.Examples.{hold}
 use Rattle.demands.proofs.Feeding.{fed-as-whole, refused-for-good, bad-edition, after-accepted-close, one-past-the-last}
 use Rattle.demands.proofs.HiddenDigits.{hidden-digits-reach-nothing, masked-where-hidden}
 use Rattle.demands.proofs.HiddenDigitsExample.{twins-that-differ, credits-that-differ}
 use Rattle.demands.proofs.InChunks.{as-the-whole, after-the-end}
 use Rattle.demands.proofs.LentBuffers.{refused-leaves-alone}
-use Rattle.demands.proofs.RulesKept.{card-rules-kept, payroll-rules-kept, sheet-there-and-back}
+use Rattle.demands.proofs.RulesKept.{card-rules-kept, payroll-rules-kept}
 use Rattle.demands.proofs.demands_hold.Statement.{statement}
 use Rattle.demands.proofs.demands_hold.Tie as tie
 
@@ -29,6 +30,8 @@ returns c =
       card-rules-kept = card-rules-kept;
       payroll-rules-kept = payroll-rules-kept;
       sheet-there-and-back = sheet-there-and-back;
+      sheet-converted = sheet-converted;
+      sheet-of-file = sheet-of-file;
       fed-as-whole = fed-as-whole;
       refused-for-good = λ st refusal e. refused-for-good st refusal (same-answer (answerOf st) (Refused refusal) e);
       bad-edition = bad-edition;
