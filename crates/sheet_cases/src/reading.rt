@@ -4,18 +4,38 @@ ghost use lib.ListN.{length};
 use cases::answer;
 use cases::cursor;
 use cases::cursor::LENGTH_BYTES;
-use cases::file;
 use cases::print;
 use day_sheet::reader::SheetRead;
+use day_sheet::sheet::Heading;
 use day_sheet::sheet::Sheet;
 
-// `A edition date movement batches sales gross discount net`
-fn print_sheet(sheet: Sheet) {
+// `A version edition date movement batches`
+fn print_heading(version: u64, heading: Heading) {
     print::byte(b'A');
-    answer::next_number(sheet.edition);
-    answer::next_day(sheet.date, sheet.movement);
-    answer::next_number(sheet.batches);
-    answer::next_totals(sheet.totals);
+    answer::next_number(version);
+    answer::next_number(heading.edition);
+    answer::next_day(heading.date, heading.movement);
+    answer::next_number(heading.batches);
+}
+
+// Behind the heading `sales gross discount net`, or those of the settled, `split`, and those of the forecast.
+fn print_sheet(sheet: Sheet) {
+    match sheet {
+        Sheet::Version1 { heading, totals } => {
+            print_heading(1, heading);
+            answer::next_totals(totals);
+        }
+        Sheet::Version2 {
+            heading,
+            split,
+            sets,
+        } => {
+            print_heading(2, heading);
+            answer::next_totals(sets.settled);
+            answer::next_number(split);
+            answer::next_totals(sets.forecast);
+        }
+    }
 }
 
 // Prints the answer of some bytes, a line.
@@ -28,36 +48,10 @@ fn print_answer(bytes: &[u8]) {
 }
 
 // Prints the line of the case at a place, and answers the place behind it.
-fn print_case(cases: &[u8], at: usize) -> usize
+pub fn print_case(cases: &[u8], at: usize) -> usize
     ensures { λ r. ⌜ min (at + 1) (length (now (cases .entry))) ≤ r ⌝ }
 {
     let length = cursor::number_at(cases, at, LENGTH_BYTES);
     print_answer(length.part(cases));
     length.behind_part()
-}
-
-// Prints the lines of all cases.
-fn print_cases(cases: &[u8]) {
-    let mut at = 0;
-    while at < cases.len() {
-        at = print_case(cases, at);
-    }
-    cursor::print_end(cases, at);
-}
-
-// Prints the lines of a file of cases.
-fn print_file(path: &[u8]) {
-    let mut buffer = file::room();
-    let size = file::load(path, &mut buffer);
-    print_cases(&buffer[..size]);
-}
-
-pub fn print_outside() {
-    print::text(b"outside read\n");
-    print_file(b"outside_read.cases");
-}
-
-pub fn print_own() {
-    print::text(b"own read\n");
-    print_file(b"own_read.cases");
 }

@@ -1,121 +1,88 @@
-// Sheets to write. A case is the output's length, and the numbers of a sheet.
-ghost use mathlib.Core.Path.{_≡_};
+// Sheets that are written into an output. A case is the output's length, and what the sheet is made of: the numbers of a sheet to write; else a length, and so
+// many bytes. Before the case of a card file stands the edition.
 ghost use Prim.Native.Nat.{_+_, _≤_, min};
 ghost use lib.ListN.{length};
-ghost use Rattle.sheet_cases.specs.Written.{amountsAt, totalsAt, sheetAt};
+use crate::numbers;
 use crate::output::ROOM;
 use crate::output::Told;
 use crate::output::print_output;
 use cases::answer;
 use cases::cursor;
 use cases::cursor::LENGTH_BYTES;
-use cases::file;
+use cases::cursor::Number;
 use cases::output;
 use cases::print;
-use day_sheet::sheet::Sheet;
+use day_sheet::layout::Version;
 use day_sheet::writer::SheetWritten;
-use totals::amounts::Amounts;
-use totals::amounts::Totals;
 
-// How many bytes each number of a sheet takes, and all eight of them.
-const NUMBER_BYTES: u64 = 8;
-
-const SHEET_BYTES: u64 = 64;
-
-// Gross, discount, net.
-fn amounts_at(cases: &[u8], at: usize) -> Amounts
-    ensures { λ r. ⌜ r ≡ amountsAt (now (cases .entry)) at ⌝ }
-{
-    let gross = cursor::number_at(cases, at, NUMBER_BYTES);
-    let discount = cursor::number_at(cases, gross.behind, NUMBER_BYTES);
-    let net = cursor::number_at(cases, discount.behind, NUMBER_BYTES);
-    Amounts {
-        gross: gross.value,
-        discount: discount.value,
-        net: net.value,
-    }
+// What a case wants in its output.
+pub enum Wanted {
+    // The sheet of some numbers.
+    Sheet(Version),
+    // A sheet in the other version.
+    Converted,
+    // The sheet of a card file under this edition.
+    OfFile(u64),
 }
 
-// Sales, and the amounts.
-fn totals_at(cases: &[u8], at: usize) -> Totals
-    ensures { λ r. ⌜ r ≡ totalsAt (now (cases .entry)) at ⌝ }
-{
-    let sales = cursor::number_at(cases, at, NUMBER_BYTES);
-    Totals {
-        sales: sales.value,
-        amounts: amounts_at(cases, sales.behind),
-    }
-}
-
-// Edition, date, movement, batches, and the totals.
-fn sheet_at(cases: &[u8], at: usize) -> Sheet
-    ensures { λ r. ⌜ r ≡ sheetAt (now (cases .entry)) at ⌝ }
-{
-    let edition = cursor::number_at(cases, at, NUMBER_BYTES);
-    let date = cursor::number_at(cases, edition.behind, NUMBER_BYTES);
-    let movement = cursor::number_at(cases, date.behind, NUMBER_BYTES);
-    let batches = cursor::number_at(cases, movement.behind, NUMBER_BYTES);
-    Sheet {
-        edition: edition.value,
-        date: date.value,
-        movement: movement.value,
-        batches: batches.value,
-        totals: totals_at(cases, batches.behind),
-    }
-}
-
-// Writes a sheet into an output, and prints the answer and the output, a line: `A output` or `R number record column output`.
-fn print_answer(sheet: Sheet, out: &mut [u8], told: Told) {
-    output::fill(out);
-    match day_sheet::writer::write(sheet, out) {
+// `A` or `R number record column`
+fn print_written(written: SheetWritten) {
+    match written {
         SheetWritten::Written => print::byte(b'A'),
         SheetWritten::Refused(refusal) => answer::print_refusal(refusal),
     }
+}
+
+// Writes a sheet, made of this input, into an output, and prints the answer.
+fn print_answer(wanted: Wanted, input: &[u8], out: &mut [u8]) {
+    match wanted {
+        Wanted::Sheet(version) => {
+            print_written(day_sheet::writer::write(numbers::sheet_in(version, input), out))
+        }
+        Wanted::Converted => print_written(day_sheet::converter::convert(input, out)),
+        Wanted::OfFile(edition) => {
+            answer::print_card_answer(card_sheet::sheet_of(edition, input, out))
+        }
+    }
+}
+
+// The same, and then the output, a line.
+fn print_line(wanted: Wanted, input: &[u8], out: &mut [u8], told: Told) {
+    output::fill(out);
+    print_answer(wanted, input, out);
     print_output(out, told);
 }
 
 // The same in an output of so many bytes.
-fn print_answer_in(sheet: Sheet, size: usize, told: Told) {
+fn print_line_in(wanted: Wanted, input: &[u8], size: usize, told: Told) {
     let mut room = [0u8; ROOM];
     if ROOM < size {
         output::print_too_long();
         return;
     }
-    print_answer(sheet, &mut room[0..size], told);
+    print_line(wanted, input, &mut room[0..size], told);
+}
+
+// How many bytes the input has, and where it begins.
+fn input_at(wanted: Wanted, cases: &[u8], at: usize) -> Number
+    ensures { λ r. ⌜ at ≤ r .behind ⌝ }
+{
+    match wanted {
+        Wanted::Sheet(version) => Number {
+            value: numbers::size_of(version),
+            behind: at,
+        },
+        Wanted::Converted => cursor::number_at(cases, at, LENGTH_BYTES),
+        Wanted::OfFile(_) => cursor::number_at(cases, at, LENGTH_BYTES),
+    }
 }
 
 // Prints the line of the case at a place, and answers the place behind it.
-fn print_case(cases: &[u8], at: usize, told: Told) -> usize
+pub fn print_case(wanted: Wanted, cases: &[u8], at: usize, told: Told) -> usize
     ensures { λ r. ⌜ min (at + 1) (length (now (cases .entry))) ≤ r ⌝ }
 {
     let size = cursor::number_at(cases, at, LENGTH_BYTES);
-    print_answer_in(sheet_at(cases, size.behind), size.value as usize, told);
-    let last = cursor::number_at(cases, size.behind, SHEET_BYTES);
-    last.behind
-}
-
-// Prints the lines of all cases.
-fn print_cases(cases: &[u8], told: Told) {
-    let mut at = 0;
-    while at < cases.len() {
-        at = print_case(cases, at, told);
-    }
-    cursor::print_end(cases, at);
-}
-
-// Prints the lines of a file of cases.
-fn print_file(path: &[u8], told: Told) {
-    let mut buffer = file::room();
-    let size = file::load(path, &mut buffer);
-    print_cases(&buffer[..size], told);
-}
-
-pub fn print_outside() {
-    print::text(b"outside write\n");
-    print_file(b"outside_write.cases", Told::ByHash);
-}
-
-pub fn print_own() {
-    print::text(b"own write\n");
-    print_file(b"own_write.cases", Told::InHex);
+    let input = input_at(wanted, cases, size.behind);
+    print_line_in(wanted, input.part(cases), size.value as usize, told);
+    input.behind_part()
 }
