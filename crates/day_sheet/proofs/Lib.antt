@@ -1,7 +1,7 @@
 pub mod Digits
 pub mod Values
 pub mod Filling
-pub mod Places
+pub mod NextPlace
 pub mod Allowances
 pub mod Readings
 pub mod Writings

@@ -6,6 +6,34 @@ ghost use Rattle.day_sheet.specs.Layout.{bytes, version2};
 ghost use Rattle.day_sheet.specs.Version.{numberOf, widthOf, placesOf};
 use crate::number::Form;
 
+// How many bytes a sheet of each version has.
+pub const WIDTH_1: usize = 52;
+
+pub const WIDTH_2: usize = 81;
+
+// "DSH" stands in front of the places, as the number that its three bytes hold.
+pub const MARK: u64 = 0x44_53_48;
+
+pub const MARK_WIDTH: usize = 3;
+
+// Which number of the table is which, from 0. The version is the first, and behind SETTLED and FORECAST stand sales, gross, discount and net.
+pub const EDITION: usize = 1;
+
+pub const DATE: usize = 2;
+
+pub const MOVEMENT: usize = 3;
+
+pub const BATCHES: usize = 4;
+
+pub const SETTLED: usize = 5;
+
+pub const SPLIT: usize = 9;
+
+pub const FORECAST: usize = 10;
+
+// How many numbers the table has; version 1 ends before the split.
+pub const PLACES: usize = 14;
+
 pub enum Version {
     One,
     Two,
@@ -37,23 +65,11 @@ impl Version {
         ensures { λ r. ⌜ r ≡ placesOf self ⌝ }
     {
         match self {
-            Version::One => 9,
+            Version::One => SPLIT,
             Version::Two => PLACES,
         }
     }
 }
-
-pub const WIDTH_1: usize = 52;
-
-pub const WIDTH_2: usize = 81;
-
-// "DSH" stands in front of the places, as the number that its three bytes hold.
-pub const MARK: u64 = 0x44_53_48;
-
-pub const MARK_WIDTH: usize = 3;
-
-// How many numbers the longer table has.
-pub const PLACES: usize = 14;
 
 // A number's place: how many bytes it takes, and in which form.
 pub struct Place {
@@ -61,8 +77,7 @@ pub struct Place {
     pub form: Form,
 }
 
-// How many bytes each number takes, in the order of the layout: version, edition, date, movement, batches; sales, gross, discount, net; the split; and the
-// forecast's sales, gross, discount, net.
+// How many bytes each number takes.
 const WIDTHS: [usize; PLACES] = [2, 1, 8, 6, 4, 4, 8, 8, 8, 1, 4, 8, 8, 8];
 
 // The place of a number, from 0: date and movement are ASCII digits.
@@ -72,7 +87,7 @@ pub(crate) fn place_of(number: usize) -> Place
 {
     let width = WIDTHS[number];
     match number {
-        2 | 3 => Place {
+        DATE | MOVEMENT => Place {
             width,
             form: Form::Digits,
         },

@@ -3,6 +3,8 @@ mod allowed;
 pub mod converter;
 pub mod layout;
 pub mod number;
+mod places;
 pub mod reader;
+mod row;
 pub mod sheet;
 pub mod writer;

@@ -1,7 +1,7 @@
 -- `day_sheet::layout::place_of` meets its contract: the widths are those of the table, and but for two of its places all are in bytes.
 use native.Mathlib.Omega.{arith}
 use borrow.Author.Needs.{needs}
-use Rattle.day_sheet.proofs.Places.{in-digits, in-bytes}
+use Rattle.day_sheet.proofs.NextPlace.{in-digits, in-bytes}
 use Rattle.day_sheet.proofs.layout.place_of.Statement.{statement}
 use Rattle.day_sheet.proofs.layout.place_of.Tie as tie
 

@@ -1,4 +1,4 @@
--- `day_sheet::reader::read_numbers` meets its contract. The invariant: the numbers read so far, and those of the places still to come, are all numbers, and the bytes
+-- `day_sheet::places::read_numbers` meets its contract. The invariant: the numbers read so far, and those of the places still to come, are all numbers, and the bytes
 -- reach as far.
 use Prim.Native.Nat.{ℕ, _+_, _-_, _≤_, _<_}
 use mathlib.Core.Path.{_≡_, refl, sym, _∙_, ap}
@@ -10,9 +10,9 @@ use lib.Seq.{take-all}
 use Rattle.day_sheet.specs.declared.layout.Place.{Place}
 use Rattle.day_sheet.specs.Layout.{tableWidth, fromPlaces}
 use Rattle.day_sheet.specs.FirstPlaces.{firstPlaces}
-use Rattle.day_sheet.proofs.Places.{next-width, next-number, at-most-eight, none-left, one-more}
-use Rattle.day_sheet.proofs.reader.read_numbers.Statement.{statement}
-use Rattle.day_sheet.proofs.reader.read_numbers.Tie as tie
+use Rattle.day_sheet.proofs.NextPlace.{next-width, next-number, at-most-eight, none-left, one-more}
+use Rattle.day_sheet.proofs.places.read_numbers.Statement.{statement}
+use Rattle.day_sheet.proofs.places.read_numbers.Tie as tie
 
 abbrev Inv-loop : tie.InvT-loop
 Inv-loop bytes numbers₀ at₀ number₀ numbers at number =

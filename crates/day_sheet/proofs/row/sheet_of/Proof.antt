@@ -1,8 +1,8 @@
--- `day_sheet::reader::sheet_of` meets its contract: the version picks the case of `sheetOf`.
+-- `day_sheet::row::sheet_of` meets its contract: the version picks the case of `sheetOf`.
 use mathlib.Core.Path.{sym, _∙_}
 use borrow.Author.Needs.{needs}
-use Rattle.day_sheet.proofs.reader.sheet_of.Statement.{statement}
-use Rattle.day_sheet.proofs.reader.sheet_of.Tie as tie
+use Rattle.day_sheet.proofs.row.sheet_of.Statement.{statement}
+use Rattle.day_sheet.proofs.row.sheet_of.Tie as tie
 
 enum-told : tie.Need-enum-told
 enum-told c = search needs

@@ -1,4 +1,4 @@
--- `day_sheet::reader::holds_digits` meets its contract. The invariant: whether the places still to come hold digits decides of all, and the bytes reach as far.
+-- `day_sheet::places::holds_digits` meets its contract. The invariant: whether the places still to come hold digits decides of all, and the bytes reach as far.
 use Prim.Native.Nat.{_+_, _-_, _≤_}
 use mathlib.Core.Path.{_≡_, refl, sym, _∙_, ap}
 use mathlib.Core.List.{List}
@@ -9,9 +9,9 @@ use lib.ListN.{length, drop}
 use Rattle.day_sheet.specs.declared.layout.Place.{Place}
 use Rattle.day_sheet.specs.Layout.{tableWidth, digitsRight}
 use Rattle.day_sheet.specs.FirstPlaces.{firstPlaces}
-use Rattle.day_sheet.proofs.Places.{next-width, next-digits, none-left}
-use Rattle.day_sheet.proofs.reader.holds_digits.Statement.{statement}
-use Rattle.day_sheet.proofs.reader.holds_digits.Tie as tie
+use Rattle.day_sheet.proofs.NextPlace.{next-width, next-digits, none-left}
+use Rattle.day_sheet.proofs.places.holds_digits.Statement.{statement}
+use Rattle.day_sheet.proofs.places.holds_digits.Tie as tie
 
 abbrev Inv-loop : tie.InvT-loop
 Inv-loop bytes places at₀ number₀ at number =

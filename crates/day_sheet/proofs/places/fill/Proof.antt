@@ -1,4 +1,4 @@
--- `day_sheet::writer::fill` meets its contract. The invariant: what is filled so far, and the places still to come, are what stood in front and all numbers; the rest is as it
+-- `day_sheet::places::fill` meets its contract. The invariant: what is filled so far, and the places still to come, are what stood in front and all numbers; the rest is as it
 -- was.
 use Prim.Native.Nat.{ℕ, _+_, _-_, _≤_}
 use mathlib.Core.Path.{_≡_, refl, sym, _∙_, ap, ap₂}
@@ -13,9 +13,9 @@ use Rattle.day_sheet.specs.Number.{base, zeroByte, inBase}
 use Rattle.day_sheet.specs.Layout.{tableWidth, inPlaces}
 use Rattle.day_sheet.specs.FirstPlaces.{firstPlaces}
 use Rattle.day_sheet.proofs.Filling.{Filled, as-it-was, front-of, rest-of, filled-more, filled-so-far}
-use Rattle.day_sheet.proofs.Places.{next-width, next-written, none-left}
-use Rattle.day_sheet.proofs.writer.fill.Statement.{statement}
-use Rattle.day_sheet.proofs.writer.fill.Tie as tie
+use Rattle.day_sheet.proofs.NextPlace.{next-width, next-written, none-left}
+use Rattle.day_sheet.proofs.places.fill.Statement.{statement}
+use Rattle.day_sheet.proofs.places.fill.Tie as tie
 
 abbrev Inv-loop : tie.InvT-loop
 Inv-loop numbers out₀ at₀ number₀ out at number =
