@@ -34,6 +34,8 @@ use Rattle.card_mask.specs.Mask.{maskedInto}
 use Rattle.sale_field.specs.Field.{refusalOf, partAs, placeAs}
 use Rattle.day_sheet.specs.Number.{inBase}
 use Rattle.day_sheet.specs.Layout.{inPlaces}
+use Rattle.day_sheet.specs.Sheet.{sheetRow, bytesOf}
+use Rattle.day_sheet.specs.Conversion.{converted}
 use Rattle.card_sheet.specs.SheetOf.{sheetInto}
 use Rattle.answers.proofs.Observed.{answerRead, fieldRead}
 use base.Fml.{Lft}
@@ -41,7 +43,7 @@ use Rattle.answers.specs.CardMask.{CardMask}
 use Rattle.answers.proofs.Told.{equal, told, same-part}
 
 pub card-mask : (κ : Lft) → CardMask κ
-unfolding known firstBroken allowed holdsOnly valueFrom sameBytes hasByte oneByteOf daysIn isDay isTime whenRules wellFormed inSet contentRules tableRules recordRules joinedRules kindNamed rightReading judgedAs readFound answerAt joinedAt rulesOf behind behindOrRefused tookAt closedAt inFront cut joined endsInCr withoutLast unendedAt linesOf endOf rejoined leadingZeros hiddenPlaces starWhere cardPartFound maskedAt answerWithRoom maskedInto refusalOf partAs placeAs inBase inPlaces sheetInto lateAt
+unfolding known firstBroken allowed holdsOnly valueFrom sameBytes hasByte oneByteOf daysIn isDay isTime whenRules wellFormed inSet contentRules tableRules recordRules joinedRules kindNamed rightReading judgedAs readFound answerAt joinedAt rulesOf behind behindOrRefused tookAt closedAt inFront cut joined endsInCr withoutLast unendedAt linesOf endOf rejoined leadingZeros hiddenPlaces starWhere cardPartFound maskedAt answerWithRoom maskedInto refusalOf partAs placeAs inBase inPlaces sheetRow bytesOf converted sheetInto lateAt
 card-mask κ =
     record {
       mask-lines = λ κs a r r' s s' p q. (equal (p .counts) (q .counts), equal (p .leaves) (q .leaves));
@@ -65,14 +67,19 @@ card-mask κ =
       field-behind = (record { holds = refl; block = refl; begins = refl }, λ p. told (λ n. n) refl (p .begins));
       field-elsewhere = (record { holds = refl; block = refl; begins = refl }, λ p. told (λ n. n) refl (p .begins));
       sheet-from = λ κs a r r' s s' p q. equal p q;
-      sheet-edition = (refl, told (λ s. s .edition) refl);
-      sheet-records = (refl, told (λ s. s .batches) refl);
-      sheet-settled = (refl, told (λ s. s .totals .sales) refl);
-      sheet-twice = (refl, told (λ s. s .totals .sales) refl);
+      sheet-edition = (refl, told (λ s. getD (sheetRow s) 1 0) refl);
+      sheet-records = (refl, told (λ s. getD (sheetRow s) 4 0) refl);
+      sheet-split = (refl, told (λ s. getD (sheetRow s) 9 0) refl);
+      sheet-added = (refl, told (λ s. getD (sheetRow s) 5 0) refl);
+      sheet-settled = (refl, told (λ s. getD (sheetRow s) 10 0) refl);
+      sheet-exchanged = (refl, told (λ s. getD (sheetRow s) 5 0) refl);
+      sheet-version = (refl, told (λ s. getD (sheetRow s) 0 0) refl);
       sheet-of = λ κs a r r' s s' p q. (equal (p .answers) (q .answers), equal (p .leaves) (q .leaves));
       sheet-of-edition = (record { answers = refl; leaves = refl }, λ p. told (λ s. getD s 5 0) refl (p .leaves));
-      sheet-of-past = (record { answers = refl; leaves = refl }, λ p. told (λ s. getD s 52 0) refl (p .leaves));
+      sheet-of-past = (record { answers = refl; leaves = refl }, λ p. told (λ s. getD s 81 0) refl (p .leaves));
       sheet-of-refused = (record { answers = refl; leaves = refl }, λ p. told (λ s. getD s 0 0) refl (p .leaves));
       sheet-of-short = (record { answers = refl; leaves = refl }, λ p. told answerRead refl (p .answers));
+      sheet-of-short-one = (record { answers = refl; leaves = refl }, λ p. told answerRead refl (p .answers));
+      sheet-of-split = (record { answers = refl; leaves = refl }, λ p. told (λ s. getD s 52 0) refl (p .leaves));
       sheet-of-forecast = (record { answers = refl; leaves = refl }, λ p. told (λ s. getD s 27 0) refl (p .leaves));
     }

@@ -65,6 +65,9 @@ use Rattle.payroll_file.specs.declared.answer.PayrollAnswer.{PayrollAnswer}
 use Rattle.payroll_file.specs.declared.answer.PayrollAnswer.the-variants.{Accepted as paid, Refused as unpaid}
 use Rattle.payroll_stream.specs.declared.Progress.{Progress}
 use Rattle.payroll_stream.specs.declared.Progress.the-variants.{GoingOn as goingOn, Answered}
+use Rattle.day_sheet.specs.declared.layout.Version.{Version}
+use Rattle.day_sheet.specs.declared.layout.Version.the-variants.{One, Two}
+use Rattle.day_sheet.specs.declared.sheet.Sheet.the-variants.{Version1, Version2}
 use Rattle.day_sheet.specs.declared.reader.SheetRead.{SheetRead}
 use Rattle.day_sheet.specs.declared.reader.SheetRead.the-variants.{Read, Refused as unread}
 use Rattle.day_sheet.specs.declared.writer.SheetWritten.{SheetWritten}
@@ -231,9 +234,29 @@ abbrev pub progressRead : Progress → ℕ
 progressRead goingOn = 101
 progressRead (Answered a) = payrollAnswerRead a
 
+abbrev pub versionRead : Version → ℕ
+versionRead One = 1
+versionRead Two = 2
+
 abbrev pub sheetRead : SheetRead → ℕ
 sheetRead (Read s) = 0
 sheetRead (unread r) = numberOf (r .cause)
+
+-- whether a sheet was read, and the split that it tells
+abbrev pub sheetKind : SheetRead → ℕ
+sheetKind (Read s) = 1
+sheetKind (unread r) = 0
+
+abbrev pub splitRead : SheetRead → ℕ
+splitRead (Read (Version1 heading totals)) = 0
+splitRead (Read (Version2 heading split sets)) = split
+splitRead (unread r) = 0
+
+-- the sales of a sheet's first totals
+abbrev pub settledRead : SheetRead → ℕ
+settledRead (Read (Version1 heading totals)) = totals .sales
+settledRead (Read (Version2 heading split sets)) = sets .settled .sales
+settledRead (unread r) = 0
 
 abbrev pub sheetWritten : SheetWritten → ℕ
 sheetWritten Written = 0

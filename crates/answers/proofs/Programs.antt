@@ -2,6 +2,7 @@
 use Prim.Native.Nat.{ℕ}
 use mathlib.Core.Path.{_≡_, refl, sym, _∙_, ap}
 use mathlib.Core.List.{List, []}
+use mathlib.Core.Bool.{true}
 use native.Mathlib.Omega.{arith}
 use lib.IntN.{ℤ}
 use borrow.Author.Tests.{lt-ltb}
@@ -44,22 +45,30 @@ use Rattle.payroll_stream.specs.Stream.{soFar, answerAt as payrollAnswerAt}
 use Rattle.payroll_kept.specs.Numbers.{Numbers}
 use Rattle.payroll_kept.proofs.KeptMeansKept as payroll
 use Rattle.day_sheet.specs.Number.{inBase, valueIn}
-use Rattle.day_sheet.specs.Layout.{bytesOf, inPlaces, fromPlaces}
-use Rattle.day_sheet.specs.Sheet.{totalsAllowed, sheetAllowed}
-use Rattle.day_sheet.specs.Reading.{readNumbers, readOf}
+use Rattle.day_sheet.specs.declared.sheet.Sheet.{Sheet}
+use Rattle.day_sheet.specs.declared.sheet.Sheet.the-variants.{Version1, Version2}
+use Rattle.day_sheet.specs.declared.reader.SheetRead.{SheetRead}
+use Rattle.day_sheet.specs.declared.reader.SheetRead.the-variants.{Read, Refused as unread}
+use Rattle.day_sheet.specs.Layout.{inPlaces, fromPlaces, digitsRight}
+use Rattle.day_sheet.specs.Sheet.{sheetRow, bytesOf}
+use Rattle.day_sheet.specs.Allowed.{withinLimits, setAllowed, setsAllowed, headingAllowed, noneOf, splitAllowed, sheetAllowed}
+use Rattle.day_sheet.specs.Reading.{readAs as sheetAs, readOf}
+use Rattle.day_sheet.specs.Conversion.{converted}
 use Rattle.day_sheet.proofs.RoundTrip.{read-allowed}
+use Rattle.day_sheet.proofs.ThereAndBack.{converted-allowed}
+use Rattle.sheet_program.specs.SheetRead.{convertedRead}
 use Rattle.card_kept.proofs.FirstFault.{edition-first}
 use Rattle.wording.specs.Number.{digitsWithin}
 use Rattle.wording.specs.Line.{wordOf, lineOf, refusedLine}
 use Rattle.card_program.specs.Verdict.{ledLine, totalsText, setsText, acceptedText}
 use Rattle.card_program.specs.Outcome.{outcomeAt}
 use Rattle.payroll_program.specs.Outcome.{outcomeAt as payrollOutcomeAt}
-use Rattle.answers.specs.DaySheet.{sheetOf}
+use Rattle.answers.specs.DaySheet.{sheetOf, bothSets}
 use Rattle.answers.specs.CardRun.{oneSale, accepted}
 use Rattle.answers.specs.Programs.{Programs, madeUp}
 use Rattle.answers.specs.Samples.{cardFile, payrollFile}
 use Rattle.answers.proofs.Told.{equal, told, bit}
-use Rattle.answers.proofs.Observed.{argumentRead, cardOutcomeRead, outcomeRead}
+use Rattle.answers.proofs.Observed.{argumentRead, cardOutcomeRead, outcomeRead, sheetKind, splitRead}
 
 -- no file has totals that disagree
 disagreeing : (bytes : List ℕ) → madeUp ≡ checkOf 2 bytes → ⊥
@@ -72,13 +81,26 @@ of-edition-3 : (bytes : List ℕ) → accepted 5 1 oneSale ≡ checkOf 3 bytes �
 unfolding known cardFileRow
 of-edition-3 bytes e = told (λ row. bit (row .accepted)) refl (ap cardFileRow e ∙ edition-first 3 refl bytes)
 
+-- what was converted tells no split as known, and is allowed
+no-split : (r : SheetRead) → Read bothSets ≡ convertedRead r → ⊥
+unfolding converted
+no-split (Read (Version1 heading totals)) e = told splitRead refl e
+no-split (Read (Version2 heading split sets)) e = told splitRead refl e
+no-split (unread refusal) e = told splitRead refl e
+
+converted-right : (bytes : List ℕ) (r : SheetRead) (s : Sheet) → readOf bytes ≡ r → Read s ≡ convertedRead r → sheetAllowed s ≡ true
+converted-right bytes (Read t) s e f =
+    let same : s ≡ converted t = cc in
+    ap sheetAllowed same ∙ converted-allowed t (read-allowed bytes t e)
+converted-right bytes (unread refusal) s e f = absurd (told sheetKind refl f)
+
 -- the numbers of every accepted payroll file are the plain ones of its records
 plain : (bytes : List ℕ) (a : PayrollNumbers) (e : accepted-payroll a ≡ payrollCheckOf bytes) →
     Numbers (payroll.kept-means-kept bytes .0 (record { numbers = a; answer = sym e }) .file) a
 plain bytes a e = payroll.plain-numbers bytes a (sym e) (payroll.kept-means-kept bytes .0 (record { numbers = a; answer = sym e }))
 
 pub programs : (κ : Lft) (fd : ℤ) → Programs κ fd
-unfolding known firstBroken allowed holdsOnly firstStray valueFrom sameBytes hasByte oneByteOf daysIn isDay isTime whenRules wellFormed inFront cut joined endsInCr withoutLast inSet contentRules tableRules recordRules joinedRules kindNamed rightReading judgedAs readFound answerAt joinedAt rulesOf behind behindOrRefused tookAt closedAt unendedAt linesOf endOf numberRules strayAt segmentNamed payrollKindNamed readAs payrollReadFound foundRules dueRules payrollRunRules behindDetailAs payrollBehind payrollBehindOrRefused payrollTookAt payrollLinesOf endedOf endAt inBase valueIn inPlaces fromPlaces totalsAllowed sheetAllowed readNumbers readOf lateAt digitsWithin wordOf lineOf refusedLine ledLine totalsText setsText acceptedText outcomeAt payrollOutcomeAt withHeld soFar payrollAnswerAt
+unfolding known firstBroken allowed holdsOnly firstStray valueFrom sameBytes hasByte oneByteOf daysIn isDay isTime whenRules wellFormed inFront cut joined endsInCr withoutLast inSet contentRules tableRules recordRules joinedRules kindNamed rightReading judgedAs readFound answerAt joinedAt rulesOf behind behindOrRefused tookAt closedAt unendedAt linesOf endOf numberRules strayAt segmentNamed payrollKindNamed readAs payrollReadFound foundRules dueRules payrollRunRules behindDetailAs payrollBehind payrollBehindOrRefused payrollTookAt payrollLinesOf endedOf endAt inBase valueIn inPlaces fromPlaces digitsRight sheetRow bytesOf withinLimits setAllowed setsAllowed headingAllowed noneOf splitAllowed sheetAllowed sheetAs readOf converted lateAt digitsWithin wordOf lineOf refusedLine ledLine totalsText setsText acceptedText outcomeAt payrollOutcomeAt withHeld soFar payrollAnswerAt
 programs κ fd =
     record {
       eleven-lines = refl;
@@ -110,6 +132,8 @@ programs κ fd =
       write-totals = ((cardFile, refl), λ p. disagreeing (p .0) (p .1));
       sheet-edition = ((bytesOf (sheetOf 2 9750), refl), λ p. told bit refl (read-allowed (p .0) _ (sym (p .1))));
       sheet-amounts = ((bytesOf (sheetOf 2 9750), refl), λ p. told bit refl (read-allowed (p .0) _ (sym (p .1))));
+      convert-split = ((bytesOf (sheetOf 2 9750), refl), λ p. no-split (readOf (p .0)) (p .1));
+      convert-edition = ((bytesOf (sheetOf 2 9750), refl), λ p. told bit refl (converted-right (p .0) (readOf (p .0)) _ refl (p .1)));
       decided-payroll = λ κs a r r' s s' p q. equal p q;
       decided-payroll-going-on = (refl, told bit refl);
       decided-payroll-refused = (refl, told bit refl);

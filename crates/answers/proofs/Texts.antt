@@ -13,7 +13,7 @@ use Rattle.program.specs.Reason.{otherReason, reasonOf}
 use Rattle.card_program.specs.Verdict.{ledLine, totalsText, setsText, acceptedText}
 use Rattle.payroll_program.specs.Verdict.{acceptedText as payrollText}
 use Rattle.day_sheet.specs.Number.{inBase}
-use Rattle.sheet_program.specs.Verdict.{digitsLine, numbersText}
+use Rattle.sheet_program.specs.Verdict.{digitsLine, headingText, version1Text, version2Text}
 use Rattle.answers.specs.Texts.{Texts}
 use Rattle.answers.proofs.Told.{equal, told}
 
@@ -21,7 +21,7 @@ one-put : {text before after after' : List ℕ} {at end end' : ℕ} → Puts tex
 one-put p q = (equal (p .ends) (q .ends), equal (p .leaves) (q .leaves))
 
 pub texts : (κ : Lft) → Texts κ
-unfolding over overAt digitsWithin wordOf lineOf refusedLine otherReason reasonOf ledLine totalsText setsText acceptedText payrollText inBase digitsLine numbersText
+unfolding over overAt digitsWithin wordOf lineOf refusedLine otherReason reasonOf ledLine totalsText setsText acceptedText payrollText inBase digitsLine headingText version1Text version2Text
 texts κ =
     record {
       text = λ κs a r r' s s' p q. one-put p q;
@@ -44,6 +44,9 @@ texts κ =
       totals-exchanged = (record { ends = refl; leaves = refl }, λ p. told (λ s. getD s 15 0) refl (p .leaves));
       totals-no-discount = (record { ends = refl; leaves = refl }, λ p. told (λ n. n) refl (p .ends));
       totals-led-once = (record { ends = refl; leaves = refl }, λ p. told (λ n. n) refl (p .ends));
+      sets = λ κs a r r' s s' p q. one-put p q;
+      sets-exchanged = (record { ends = refl; leaves = refl }, λ p. told (λ s. getD s 0 0) refl (p .leaves));
+      sets-left-out = (record { ends = refl; leaves = refl }, λ p. told (λ n. n) refl (p .ends));
       card = λ κs a r r' s s' p q. one-put p q;
       card-exchanged = (record { ends = refl; leaves = refl }, λ p. told (λ s. getD s 17 0) refl (p .leaves));
       card-sets-exchanged = (record { ends = refl; leaves = refl }, λ p. told (λ s. getD s 44 0) refl (p .leaves));
@@ -55,6 +58,10 @@ texts κ =
       sheet = λ κs a r r' s s' p q. one-put p q;
       sheet-movement = (record { ends = refl; leaves = refl }, λ p. told (λ n. n) refl (p .ends));
       sheet-day-first = (record { ends = refl; leaves = refl }, λ p. told (λ s. getD s 16 0) refl (p .leaves));
+      sheet-settled-first = (record { ends = refl; leaves = refl }, λ p. told (λ s. getD s 68 0) refl (p .leaves));
+      sheet-no-version = (record { ends = refl; leaves = refl }, λ p. told (λ n. n) refl (p .ends));
+      sheet-no-split = (record { ends = refl; leaves = refl }, λ p. told (λ n. n) refl (p .ends));
+      sheet-added = (record { ends = refl; leaves = refl }, λ p. told (λ n. n) refl (p .ends));
       card-to = λ κs a r r' s s' p q. equal p q;
       card-to-error = (refl, told natAbs refl);
       card-to-output = (refl, told natAbs refl);

@@ -60,16 +60,18 @@ use Rattle.payroll_file.specs.Answer.{payrollRow, stateRow}
 use Rattle.payroll_run.specs.declared.stage.Stage.the-variants.{Refused as payrollRefused}
 use Rattle.payroll_run.specs.State.{opened, moved}
 use Rattle.day_sheet.specs.Number.{inBase, valueIn}
-use Rattle.day_sheet.specs.Layout.{inPlaces, fromPlaces}
-use Rattle.day_sheet.specs.Sheet.{totalsAllowed, sheetAllowed}
-use Rattle.day_sheet.specs.Reading.{readNumbers, readOf}
+use Rattle.day_sheet.specs.Layout.{inPlaces, fromPlaces, digitsRight}
+use Rattle.day_sheet.specs.Sheet.{sheetRow, bytesOf}
+use Rattle.day_sheet.specs.Allowed.{withinLimits, setAllowed, setsAllowed, headingAllowed, noneOf, splitAllowed, sheetAllowed}
+use Rattle.day_sheet.specs.Reading.{readAs as sheetAs, readOf}
+use Rattle.day_sheet.specs.Conversion.{converted}
 use Rattle.day_sheet.specs.Answer.{readRow}
 use Rattle.demands.specs.Demands.{Demands}
 use Rattle.demands.specs.Examples.{asWritten, allAsWritten}
 use Rattle.demands.specs.Feeding.{called}
 use Rattle.demands.specs.HiddenDigits.{hiddenAt, hiddenInPieces}
 use Rattle.answers.specs.CardRun.{state, refusal, oneSale}
-use Rattle.answers.specs.DaySheet.{sheetOf}
+use Rattle.answers.specs.DaySheet.{sheetOf, bothSets}
 use Rattle.demands.specs.ExampleFile.{fileOf}
 use Rattle.answers.specs.Samples.{at, sale, cardFile, fileHeader, batchHeader, payment, batchTrailer, fileTrailer, payrollFile}
 use Rattle.answers.specs.Variants.{Variants}
@@ -80,7 +82,7 @@ not-first : (n : ℕ) → 0 ≡ suc n → ⊥
 not-first n e = omega arith
 
 pub variants : (d : Demands) → Variants d
-unfolding known firstBroken allowed holdsOnly valueFrom sameBytes hasByte oneByteOf daysIn isDay isTime whenRules wellFormed leadingZeros hiddenPlaces starWhere inFront cut joined endsInCr withoutLast rejoined inSet contentRules tableRules recordRules joinedRules cardPartFound kindNamed rightReading judgedAs readFound answerAt cardFileRow joinedAt rulesOf behind behindOrRefused tookAt closedAt unendedAt linesOf endOf lateAt fedAll answerWithRoom maskedAt maskedInto clippedWith heldBefore joinedChunks behindEnd withHeld firstStray numberRules strayAt segmentNamed payrollKindNamed readAs payrollReadFound foundRules dueRules payrollRunRules behindDetailAs payrollBehind payrollBehindOrRefused payrollTookAt payrollUnendedAt payrollLinesOf endedOf cutShortOf endAt payrollRow stateRow inBase valueIn inPlaces fromPlaces totalsAllowed sheetAllowed readNumbers readOf readRow asWritten allAsWritten called hiddenAt hiddenInPieces
+unfolding known firstBroken allowed holdsOnly valueFrom sameBytes hasByte oneByteOf daysIn isDay isTime whenRules wellFormed leadingZeros hiddenPlaces starWhere inFront cut joined endsInCr withoutLast rejoined inSet contentRules tableRules recordRules joinedRules cardPartFound kindNamed rightReading judgedAs readFound answerAt cardFileRow joinedAt rulesOf behind behindOrRefused tookAt closedAt unendedAt linesOf endOf lateAt fedAll answerWithRoom maskedAt maskedInto clippedWith heldBefore joinedChunks behindEnd withHeld firstStray numberRules strayAt segmentNamed payrollKindNamed readAs payrollReadFound foundRules dueRules payrollRunRules behindDetailAs payrollBehind payrollBehindOrRefused payrollTookAt payrollUnendedAt payrollLinesOf endedOf cutShortOf endAt payrollRow stateRow inBase valueIn inPlaces fromPlaces digitsRight sheetRow bytesOf withinLimits setAllowed setsAllowed headingAllowed noneOf splitAllowed sheetAllowed sheetAs readOf converted readRow asWritten allAsWritten called hiddenAt hiddenInPieces
 variants d =
     record {
       record-judged = λ wrong.
@@ -103,7 +105,10 @@ variants d =
           told (λ t. t .sales) refl (wrong 2 file kept .plain ∙ sym (d .card-rules-kept .numbers 2 file kept .both .plain));
       payroll-rules-kept = λ wrong. false≢true (d .payroll-rules-kept .exactly (payrollFile ++ (26 ∷ [])) .1 (wrong payrollFile .0 refl));
       sheet-there-and-back = λ wrong. told (λ row. row .refusal .number) refl (wrong (sheetOf 3 9750));
-      both-sets-added = λ wrong. told (λ t. t .sales) refl (wrong 2 (fileOf (at 44 "0" sale)) refl);
+      sheets-different = λ wrong. told (λ s. getD (sheetRow s) 1 0) refl (wrong (sheetOf 2 9750) (sheetOf 258 9750) refl refl);
+      sheet-converted = λ wrong. told (λ row. row .refusal .number) refl (wrong (sheetOf 3 9750));
+      from-two-and-back = λ wrong. told (λ s. getD s 52 0) refl (wrong (bytesOf bothSets) refl);
+      both-sets-added = λ wrong. told (λ s. getD s 4 0) refl (wrong 2 cardFile (d .card-rules-kept .exactly 2 cardFile .0 refl));
       fed-as-whole = λ wrong. told (λ row. row .refusal .number) refl (wrong 2 (ascii "A0\n" ∷ []) .closed);
       refused-for-good = λ wrong. told (λ row. row .refusal .number) refl (wrong (openOf 2) (refusal SequenceWrong 3 194) []);
       bad-edition = λ wrong. told (λ row. row .refusal .number) refl (wrong 2 []);

@@ -5,11 +5,15 @@ use lib.ListN.{length, take}
 use denote.Ref.{now}
 use Rattle.text.specs.Literal.{ascii}
 use Rattle.refusal.specs.declared.Cause.the-variants.{EditionUnknown, OutputTooShort, SequenceWrong, KindUnknown, WrongWidth, FieldNotOffered}
+use Rattle.card_run.specs.declared.answer.CardAnswer.{CardAnswer}
 use Rattle.card_run.specs.declared.answer.CardAnswer.the-variants.{Refused}
 use Rattle.sale_field.specs.declared.FieldAnswer.the-variants.{Offered, Refused as notOffered}
 use Rattle.day_sheet.specs.declared.sheet.Sheet.{Sheet}
-use Rattle.day_sheet.specs.Layout.{bytesOf}
-use Rattle.totals.specs.declared.amounts.Totals.{Totals}
+use Rattle.day_sheet.specs.declared.sheet.Sheet.the-variants.{Version2}
+use Rattle.day_sheet.specs.Sheet.{bytesOf}
+use Rattle.day_sheet.specs.Conversion.{converted}
+use Rattle.totals.specs.declared.two_sets.TwoSets.{TwoSets}
+use Rattle.totals.specs.Amounts.{noTotals}
 use Rattle.totals.specs.TwoSets.{setsOf}
 use Rattle.answers.specs.Totals.{amounts, totalsOf}
 use Rattle.answers.specs.CardRun.{numbers as numbersOf, refusal, oneSale, oneForecast, accepted}
@@ -29,23 +33,23 @@ use Rattle.answers.specs.Held.{OneAnswer, OnePart, OneOutcome, Tells, Te
 abbrev maskedSale : List ℕ
 maskedSale = at 88 "000123456******3456" sale
 
--- a day sheet under an edition with these totals, and the example's
-abbrev sheetWith : ℕ → Totals → Sheet
-sheetWith edition totals = record { edition = edition; date = 20240229; movement = 1; batches = 1; totals = totals }
+-- a day sheet under an edition with a split and these sets, and the example's
+abbrev sheetWith : ℕ → ℕ → TwoSets → Sheet
+sheetWith edition split sets = Version2 (record { edition = edition; date = 20240229; movement = 1; batches = 1 }) split sets
 
 abbrev daySheet : ℕ → Sheet
-daySheet edition = sheetWith edition (totalsOf 1 (amounts 10000 250 9750))
+daySheet edition = sheetWith edition 1 oneSale
 
 -- the example's numbers
 abbrev numbers : Accepted
 numbers = numbersOf 5 1 oneSale
 
--- with its sale as forecast and when paid, and the sheet of that
-abbrev numbersOfTwo : Accepted
-numbersOfTwo = numbersOf 6 1 (setsOf (oneForecast .forecast) (oneSale .settled))
+-- with its sale as forecast and when paid, and both of that in one set
+abbrev twoSales : TwoSets
+twoSales = setsOf (oneForecast .forecast) (oneSale .settled)
 
-abbrev sheetOfTwo : Sheet
-sheetOfTwo = sheetWith 2 (totalsOf 2 (amounts 20000 500 19500))
+abbrev bothSettled : TwoSets
+bothSettled = setsOf noTotals (totalsOf 2 (amounts 20000 500 19500))
 
 pub record CardMask (κ : Lft) : Type 0 where
   -- `mask_lines`: the unfinished record counted; nothing masked
@@ -100,31 +104,44 @@ pub record CardMask (κ : Lft) : Type 0 where
   pub field-is-card : Tells (Field.Post (one κ)) (lent sale, (13, tt)) (part 0 []) (part 87 (ascii "0001234567890123456"))
   pub field-behind : Tells (Field.Post (one κ)) (lent sale, (12, tt)) (part 76 (ascii "00000009750")) (part 87 (ascii "0001234567890123456"))
   pub field-elsewhere : Tells (Field.Post (one κ)) (lent sale, (14, tt)) (part 106 (ascii "00")) (part 108 (ascii "00"))
-  -- `sheet_from`: always edition 2; the records for the batches; the settled alone, and a forecast added twice
+  -- `sheet_from`: always edition 2; the records for the batches; the split as 0, also where nothing is forecast; the forecast added into the settled places; the forecast left
+  -- out; the sets exchanged; version 1
   pub sheet-from : OneAnswer SheetFrom.Post
   pub sheet-edition : Tells (SheetFrom.Post tt) (1, (numbers, tt)) (daySheet 1) (daySheet 2)
-  pub sheet-records : Tells (SheetFrom.Post tt) (2, (numbers, tt)) (daySheet 2) (record { edition = 2; date = 20240229; movement = 1; batches = 5; totals = totalsOf 1 (amounts 10000 250 9750) })
-  pub sheet-settled : Tells (SheetFrom.Post tt) (2, (numbersOfTwo, tt)) sheetOfTwo (daySheet 2)
-  pub sheet-twice : Tells (SheetFrom.Post tt) (2, (numbersOfTwo, tt)) sheetOfTwo (sheetWith 2 (totalsOf 3 (amounts 30000 750 29250)))
-  -- `sheet_of`: another edition in the sheet; a byte past 52 changed; a refused file's output written; 51 bytes enough; the forecasts left out
+  pub sheet-records : Tells (SheetFrom.Post tt) (2, (numbers, tt)) (daySheet 2) (Version2 (record { edition = 2; date = 20240229; movement = 1; batches = 5 }) 1 oneSale)
+  pub sheet-split : Tells (SheetFrom.Post tt) (2, (numbers, tt)) (daySheet 2) (sheetWith 2 0 oneSale)
+  pub sheet-added : Tells (SheetFrom.Post tt) (2, (numbersOf 6 1 twoSales, tt)) (sheetWith 2 1 twoSales) (sheetWith 2 1 bothSettled)
+  pub sheet-settled : Tells (SheetFrom.Post tt) (2, (numbersOf 6 1 twoSales, tt)) (sheetWith 2 1 twoSales) (daySheet 2)
+  pub sheet-exchanged : Tells (SheetFrom.Post tt) (2, (numbers, tt)) (daySheet 2) (sheetWith 2 1 oneForecast)
+  pub sheet-version : Tells (SheetFrom.Post tt) (2, (numbers, tt)) (daySheet 2) (converted (daySheet 2))
+  -- `sheet_of`: another edition in the sheet; a byte past 81 changed; a refused file's output written; 80 bytes enough, and 52; the split as 0; a forecast in the settled places;
+  -- version 1 written
   pub sheet-of : OneOutcome (λ κs s. now (s .1 .1 .0)) SheetOf.Post
   pub sheet-of-edition :
-      TellsOutcome (SheetOf.Post (two κ)) (1, (lent cardFile, (lent (room 52), tt)))
+      TellsOutcome (SheetOf.Post (two κ)) (1, (lent cardFile, (lent (room 81), tt)))
       (record { answer = accepted 5 1 oneSale; exit = (1, (lent cardFile, (lent (bytesOf (daySheet 1)), tt))) })
       (record { answer = accepted 5 1 oneSale; exit = (1, (lent cardFile, (lent (bytesOf (daySheet 2)), tt))) })
   pub sheet-of-past :
-      TellsOutcome (SheetOf.Post (two κ)) (2, (lent cardFile, (lent (room 53), tt)))
+      TellsOutcome (SheetOf.Post (two κ)) (2, (lent cardFile, (lent (room 82), tt)))
       (record { answer = accepted 5 1 oneSale; exit = (2, (lent cardFile, (lent (bytesOf (daySheet 2) ++ room 1), tt))) })
       (record { answer = accepted 5 1 oneSale; exit = (2, (lent cardFile, (lent (bytesOf (daySheet 2) ++ ascii "\n"), tt))) })
   pub sheet-of-refused :
-      TellsOutcome (SheetOf.Post (two κ)) (2, (lent (fileOf (at 194 "000004" sale)), (lent (room 52), tt)))
-      (record { answer = Refused (refusal SequenceWrong 3 194); exit = (2, (lent (fileOf (at 194 "000004" sale)), (lent (room 52), tt))) })
+      TellsOutcome (SheetOf.Post (two κ)) (2, (lent (fileOf (at 194 "000004" sale)), (lent (room 81), tt)))
+      (record { answer = Refused (refusal SequenceWrong 3 194); exit = (2, (lent (fileOf (at 194 "000004" sale)), (lent (room 81), tt))) })
       (record { answer = Refused (refusal SequenceWrong 3 194); exit = (2, (lent (fileOf (at 194 "000004" sale)), (lent (bytesOf (daySheet 2)), tt))) })
   pub sheet-of-short :
-      TellsOutcome (SheetOf.Post (two κ)) (2, (lent cardFile, (lent (room 51), tt)))
-      (record { answer = Refused (refusal OutputTooShort 0 0); exit = (2, (lent cardFile, (lent (room 51), tt))) })
-      (record { answer = accepted 5 1 oneSale; exit = (2, (lent cardFile, (lent (room 51), tt))) })
+      TellsOutcome (SheetOf.Post (two κ)) (2, (lent cardFile, (lent (room 80), tt)))
+      (record { answer = Refused (refusal OutputTooShort 0 0); exit = (2, (lent cardFile, (lent (room 80), tt))) })
+      (record { answer = accepted 5 1 oneSale; exit = (2, (lent cardFile, (lent (take 80 (bytesOf (daySheet 2))), tt))) })
+  pub sheet-of-short-one :
+      TellsOutcome (SheetOf.Post (two κ)) (2, (lent cardFile, (lent (room 52), tt)))
+      (record { answer = Refused (refusal OutputTooShort 0 0); exit = (2, (lent cardFile, (lent (room 52), tt))) })
+      (record { answer = accepted 5 1 oneSale; exit = (2, (lent cardFile, (lent (bytesOf (converted (daySheet 2))), tt))) })
+  pub sheet-of-split :
+      TellsOutcome (SheetOf.Post (two κ)) (2, (lent cardFile, (lent (room 81), tt)))
+      (record { answer = accepted 5 1 oneSale; exit = (2, (lent cardFile, (lent (bytesOf (daySheet 2)), tt))) })
+      (record { answer = accepted 5 1 oneSale; exit = (2, (lent cardFile, (lent (bytesOf (sheetWith 2 0 oneSale)), tt))) })
   pub sheet-of-forecast :
-      TellsOutcome (SheetOf.Post (two κ)) (2, (lent (fileOf (at 44 "0" sale)), (lent (room 52), tt)))
+      TellsOutcome (SheetOf.Post (two κ)) (2, (lent (fileOf (at 44 "0" sale)), (lent (room 81), tt)))
+      (record { answer = accepted 5 1 oneForecast; exit = (2, (lent (fileOf (at 44 "0" sale)), (lent (bytesOf (sheetWith 2 1 oneForecast)), tt))) })
       (record { answer = accepted 5 1 oneForecast; exit = (2, (lent (fileOf (at 44 "0" sale)), (lent (bytesOf (daySheet 2)), tt))) })
-      (record { answer = accepted 5 1 oneForecast; exit = (2, (lent (fileOf (at 44 "0" sale)), (lent (bytesOf (sheetWith 2 (totalsOf 0 (amounts 0 0 0)))), tt))) })

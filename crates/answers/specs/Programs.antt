@@ -16,6 +16,7 @@ use Rattle.payroll_file.specs.declared.answer.PayrollAnswer.{PayrollAnswer}
 use Rattle.payroll_file.specs.declared.answer.PayrollAnswer.the-variants.{Accepted as accepted-payroll, Refused as refused-payroll}
 use Rattle.payroll_stream.specs.declared.Progress.the-variants.{GoingOn as goingOn, Answered}
 use Rattle.day_sheet.specs.declared.reader.SheetRead.the-variants.{Read}
+use Rattle.day_sheet.specs.Conversion.{converted}
 use Rattle.demands.specs.ExampleFile.{fileOf}
 use Rattle.card_file.specs.CardFile.{checkOf}
 use Rattle.card_stream.specs.Stream.{openOf}
@@ -40,6 +41,7 @@ use Rattle.card_program.proofs.work.work.Reads as Work
 use Rattle.mask_program.proofs.work.work.Reads as Mask
 use Rattle.sheet_program.proofs.work.work.Reads as Write
 use Rattle.sheet_program.proofs.read.read.Reads as ReadSheet
+use Rattle.sheet_program.proofs.convert.convert.Reads as ConvertSheet
 use Rattle.payroll_program.proofs.outcome.is_decided.Reads as IsDecidedPayroll
 use Rattle.payroll_program.proofs.outcome.outcome_at.Reads as PayrollOutcomeAt
 use Rattle.payroll_program.proofs.check.check.Reads as CheckPayroll
@@ -48,7 +50,7 @@ use Rattle.answers.specs.Samples.{at, sale, cardFile}
 use Rattle.answers.specs.Totals.{amounts, settled}
 use Rattle.answers.specs.CardRun.{refusal, oneSale, accepted}
 use Rattle.answers.specs.Texts.{elevenLines}
-use Rattle.answers.specs.DaySheet.{sheetOf}
+use Rattle.answers.specs.DaySheet.{sheetOf, bothSets}
 
 -- an accepted file whose gross is neither discount nor net, and the refusal of an edition that is not known
 abbrev pub madeUp : CardAnswer
@@ -106,6 +108,11 @@ pub record Programs (κ : Lft) (fd : ℤ) : Type 0 where
   -- `sheet_program::read`: a sheet of edition 3; one whose amounts disagree
   pub sheet-edition : Tells (ReadSheet.Post (one κ)) (lent (ascii "a"), tt) (read-sheet (Read (sheetOf 2 9750))) (read-sheet (Read (sheetOf 3 9750)))
   pub sheet-amounts : Tells (ReadSheet.Post (one κ)) (lent (ascii "a"), tt) (read-sheet (Read (sheetOf 2 9750))) (read-sheet (Read (sheetOf 2 9751)))
+  -- `sheet_program::convert`: a split that is told as known; a sheet of edition 3
+  pub convert-split :
+      Tells (ConvertSheet.Post (two κ)) (lent (ascii "a"), (lent (ascii "b"), tt)) (read-sheet (Read (converted (sheetOf 2 9750)))) (read-sheet (Read bothSets))
+  pub convert-edition :
+      Tells (ConvertSheet.Post (two κ)) (lent (ascii "a"), (lent (ascii "b"), tt)) (read-sheet (Read (converted (sheetOf 2 9750)))) (read-sheet (Read (converted (sheetOf 3 9750))))
   -- `payroll_program::is_decided`: decided while the file goes on; a refusal left open
   pub decided-payroll : OneAnswer IsDecidedPayroll.Post
   pub decided-payroll-going-on : Tells (IsDecidedPayroll.Post tt) (goingOn, tt) false true

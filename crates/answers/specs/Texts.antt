@@ -29,6 +29,7 @@ use Rattle.wording.proofs.line.line.Reads as PutLine
 use Rattle.wording.proofs.line.refused.Reads as PutRefused
 use Rattle.program.proofs.mistake.put.Reads as PutMistake
 use Rattle.card_program.proofs.verdict.put_totals.Reads as PutTotals
+use Rattle.card_program.proofs.verdict.put_sets.Reads as PutSets
 use Rattle.card_program.proofs.verdict.put_outcome.Reads as PutOutcome
 use Rattle.payroll_program.proofs.verdict.put_outcome.Reads as PutPayroll
 use Rattle.sheet_program.proofs.verdict.put_outcome.Reads as PutSheet
@@ -39,7 +40,7 @@ use Rattle.answers.specs.Held.{OneAnswer, OneOutcome, Tells, TellsOutcom
 use Rattle.answers.specs.Samples.{room}
 use Rattle.answers.specs.Totals.{amounts, totalsOf}
 use Rattle.answers.specs.CardRun.{refusal, oneSale, accepted}
-use Rattle.answers.specs.DaySheet.{sheetOf}
+use Rattle.answers.specs.DaySheet.{sheetOf, bothSets}
 
 -- a text at the start of a buffer of dots
 abbrev pub shown : ℕ → String → List ℕ
@@ -71,6 +72,9 @@ latePayroll = answer-payroll (unpaid late)
 
 abbrev daySheet : SheetOutcome
 daySheet = read-sheet (sheet-read (sheetOf 2 9750))
+
+abbrev splitSheet : SheetOutcome
+splitSheet = read-sheet (sheet-read bothSets)
 
 abbrev unsynced : Told
 unsynced = System Sync 13
@@ -144,6 +148,16 @@ pub record Texts (κ : Lft) : Type 0 where
       TellsOutcome (PutTotals.Post (two κ)) (lent (ascii "ALL "), (day, (lent (room 60), (0, tt))))
       (record { answer = 60; exit = (lent (ascii "ALL "), (day, (lent (shown 60 "ALL SALES 4\nALL GROSS 65990\nALL DISCOUNT 1650\nALL NET 64340\n"), (0, tt)))) })
       (record { answer = 48; exit = (lent (ascii "ALL "), (day, (lent (shown 60 "ALL SALES 4\nGROSS 65990\nDISCOUNT 1650\nNET 64340\n"), (0, tt)))) })
+  -- `put_sets`: the settled first; a set without sales left out
+  pub sets : OneOutcome (λ κs s. now (s .1 .0)) PutSets.Post
+  pub sets-exchanged :
+      TellsOutcome (PutSets.Post (one κ)) (oneSale, (lent (room 147), (0, tt)))
+      (record { answer = 143; exit = (oneSale, (lent (shown 147 "FORECAST SALES 0\nFORECAST GROSS 0\nFORECAST DISCOUNT 0\nFORECAST NET 0\nSETTLED SALES 1\nSETTLED GROSS 10000\nSETTLED DISCOUNT 250\nSETTLED NET 9750\n"), (0, tt))) })
+      (record { answer = 143; exit = (oneSale, (lent (shown 147 "SETTLED SALES 1\nSETTLED GROSS 10000\nSETTLED DISCOUNT 250\nSETTLED NET 9750\nFORECAST SALES 0\nFORECAST GROSS 0\nFORECAST DISCOUNT 0\nFORECAST NET 0\n"), (0, tt))) })
+  pub sets-left-out :
+      TellsOutcome (PutSets.Post (one κ)) (oneSale, (lent (room 147), (0, tt)))
+      (record { answer = 143; exit = (oneSale, (lent (shown 147 "FORECAST SALES 0\nFORECAST GROSS 0\nFORECAST DISCOUNT 0\nFORECAST NET 0\nSETTLED SALES 1\nSETTLED GROSS 10000\nSETTLED DISCOUNT 250\nSETTLED NET 9750\n"), (0, tt))) })
+      (record { answer = 74; exit = (oneSale, (lent (shown 147 "SETTLED SALES 1\nSETTLED GROSS 10000\nSETTLED DISCOUNT 250\nSETTLED NET 9750\n"), (0, tt))) })
   -- `card_program::put_outcome`: records and batches exchanged; forecast and settled exchanged; both in four lines; a refused file accepted
   pub card : OneOutcome (λ κs s. now (s .1 .0)) PutOutcome.Post
   pub card-exchanged :
@@ -172,7 +186,7 @@ pub record Texts (κ : Lft) : Type 0 where
       TellsOutcome (PutPayroll.Post (one κ)) (latePayroll, (lent (room 32), (0, tt)))
       (record { answer = 30; exit = (latePayroll, (lent (shown 32 "REFUSED 9 RECORD 3 COLUMN 194\n"), (0, tt))) })
       (record { answer = 30; exit = (latePayroll, (lent (shown 32 "REFUSED 9 RECORD 194 COLUMN 3\n"), (0, tt))) })
-  -- `sheet_program::put_outcome`: a movement without its zeros; the day first
+  -- `sheet_program::put_outcome`: a movement without its zeros; the day first; of version 2 the settled first, no line of the version or of the split, both sets added as version 1 has them
   pub sheet : OneOutcome (λ κs s. now (s .1 .0)) PutSheet.Post
   pub sheet-movement :
       TellsOutcome (PutSheet.Post (one κ)) (daySheet, (lent (room 96), (0, tt)))
@@ -182,6 +196,22 @@ pub record Texts (κ : Lft) : Type 0 where
       TellsOutcome (PutSheet.Post (one κ)) (daySheet, (lent (room 96), (0, tt)))
       (record { answer = 92; exit = (daySheet, (lent (shown 96 "EDITION 2\nDATE 20240229\nMOVEMENT 000001\nBATCHES 1\nSALES 1\nGROSS 10000\nDISCOUNT 250\nNET 9750\n"), (0, tt))) })
       (record { answer = 92; exit = (daySheet, (lent (shown 96 "EDITION 2\nDATE 29022024\nMOVEMENT 000001\nBATCHES 1\nSALES 1\nGROSS 10000\nDISCOUNT 250\nNET 9750\n"), (0, tt))) })
+  pub sheet-settled-first :
+      TellsOutcome (PutSheet.Post (one κ)) (splitSheet, (lent (room 225), (0, tt)))
+      (record { answer = 221; exit = (splitSheet, (lent (shown 225 "VERSION 2\nEDITION 2\nDATE 20240229\nMOVEMENT 000001\nBATCHES 1\nSPLIT 1\nFORECAST SALES 2\nFORECAST GROSS 20000\nFORECAST DISCOUNT 500\nFORECAST NET 19500\nSETTLED SALES 1\nSETTLED GROSS 10000\nSETTLED DISCOUNT 250\nSETTLED NET 9750\n"), (0, tt))) })
+      (record { answer = 221; exit = (splitSheet, (lent (shown 225 "VERSION 2\nEDITION 2\nDATE 20240229\nMOVEMENT 000001\nBATCHES 1\nSPLIT 1\nSETTLED SALES 1\nSETTLED GROSS 10000\nSETTLED DISCOUNT 250\nSETTLED NET 9750\nFORECAST SALES 2\nFORECAST GROSS 20000\nFORECAST DISCOUNT 500\nFORECAST NET 19500\n"), (0, tt))) })
+  pub sheet-no-version :
+      TellsOutcome (PutSheet.Post (one κ)) (splitSheet, (lent (room 225), (0, tt)))
+      (record { answer = 221; exit = (splitSheet, (lent (shown 225 "VERSION 2\nEDITION 2\nDATE 20240229\nMOVEMENT 000001\nBATCHES 1\nSPLIT 1\nFORECAST SALES 2\nFORECAST GROSS 20000\nFORECAST DISCOUNT 500\nFORECAST NET 19500\nSETTLED SALES 1\nSETTLED GROSS 10000\nSETTLED DISCOUNT 250\nSETTLED NET 9750\n"), (0, tt))) })
+      (record { answer = 211; exit = (splitSheet, (lent (shown 225 "EDITION 2\nDATE 20240229\nMOVEMENT 000001\nBATCHES 1\nSPLIT 1\nFORECAST SALES 2\nFORECAST GROSS 20000\nFORECAST DISCOUNT 500\nFORECAST NET 19500\nSETTLED SALES 1\nSETTLED GROSS 10000\nSETTLED DISCOUNT 250\nSETTLED NET 9750\n"), (0, tt))) })
+  pub sheet-no-split :
+      TellsOutcome (PutSheet.Post (one κ)) (splitSheet, (lent (room 225), (0, tt)))
+      (record { answer = 221; exit = (splitSheet, (lent (shown 225 "VERSION 2\nEDITION 2\nDATE 20240229\nMOVEMENT 000001\nBATCHES 1\nSPLIT 1\nFORECAST SALES 2\nFORECAST GROSS 20000\nFORECAST DISCOUNT 500\nFORECAST NET 19500\nSETTLED SALES 1\nSETTLED GROSS 10000\nSETTLED DISCOUNT 250\nSETTLED NET 9750\n"), (0, tt))) })
+      (record { answer = 213; exit = (splitSheet, (lent (shown 225 "VERSION 2\nEDITION 2\nDATE 20240229\nMOVEMENT 000001\nBATCHES 1\nFORECAST SALES 2\nFORECAST GROSS 20000\nFORECAST DISCOUNT 500\nFORECAST NET 19500\nSETTLED SALES 1\nSETTLED GROSS 10000\nSETTLED DISCOUNT 250\nSETTLED NET 9750\n"), (0, tt))) })
+  pub sheet-added :
+      TellsOutcome (PutSheet.Post (one κ)) (splitSheet, (lent (room 225), (0, tt)))
+      (record { answer = 221; exit = (splitSheet, (lent (shown 225 "VERSION 2\nEDITION 2\nDATE 20240229\nMOVEMENT 000001\nBATCHES 1\nSPLIT 1\nFORECAST SALES 2\nFORECAST GROSS 20000\nFORECAST DISCOUNT 500\nFORECAST NET 19500\nSETTLED SALES 1\nSETTLED GROSS 10000\nSETTLED DISCOUNT 250\nSETTLED NET 9750\n"), (0, tt))) })
+      (record { answer = 93; exit = (splitSheet, (lent (shown 225 "EDITION 2\nDATE 20240229\nMOVEMENT 000001\nBATCHES 1\nSALES 3\nGROSS 30000\nDISCOUNT 750\nNET 29250\n"), (0, tt))) })
   -- `descriptor` of each program: a verdict to standard error; a mistake to standard output
   pub card-to : OneAnswer Descriptor.Post
   pub card-to-error : Tells (Descriptor.Post tt) (example, tt) (pos 1) (pos 2)

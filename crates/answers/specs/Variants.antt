@@ -18,6 +18,7 @@ use Rattle.card_kept.specs.FirstFault.{FirstFaultOfRecord, EditionFirst, FirstF
 use Rattle.card_kept.specs.Kept.{Kept, salesOf}
 use Rattle.card_kept.specs.Numbers.{TotalsOf}
 use Rattle.card_sheet.specs.SheetOf.{sheetFrom}
+use Rattle.card_sheet.specs.PlainSheet.{plainSheet1}
 use Rattle.card_mask.specs.Mask.{Masks}
 use Rattle.card_mask.specs.Masked.{maskedFile}
 use Rattle.card_stream.specs.declared.Stream.{Stream}
@@ -30,8 +31,11 @@ use Rattle.payroll_kept.specs.FirstFault as payroll-record
 use Rattle.payroll_kept.specs.FirstFaultOfFile as payroll-file
 use Rattle.payroll_kept.specs.Kept as payroll
 use Rattle.day_sheet.specs.declared.sheet.Sheet.{Sheet}
-use Rattle.day_sheet.specs.Layout.{bytesOf}
+use Rattle.day_sheet.specs.declared.reader.SheetRead.the-variants.{Read}
+use Rattle.day_sheet.specs.Sheet.{bytesOf}
+use Rattle.day_sheet.specs.Allowed.{sheetAllowed}
 use Rattle.day_sheet.specs.Reading.{readOf}
+use Rattle.day_sheet.specs.Conversion.{converted, convertedBytes}
 use Rattle.day_sheet.specs.Answer.{readRow}
 use Rattle.demands.specs.Demands.{Demands}
 use Rattle.demands.specs.Examples.{agrees, allAsWritten}
@@ -69,11 +73,18 @@ pub record Variants (d : Demands) : Type 0 where
   pub payroll-rules-kept : NotSo (d .payroll-rules-kept)
       ((bytes : List ℕ) → (payrollRow (payrollCheckOf bytes) .accepted ≡ true) ↔ payroll.Kept (bytes ++ (26 ∷ [])))
   -- of numbers that are not allowed too
-  pub sheet-there-and-back : NotSo (d .sheet-there-and-back) ((s : Sheet) → readRow (readOf (bytesOf s)) ≡ record { refusal = noRefusal; sheet = s })
-  -- the sheet of a file: the settled alone
-  pub both-sets-added : NotSo (d .sheet-there-and-back .both-sets-added)
-      ((edition : ℕ) (bytes : List ℕ) → cardFileRow (checkOf edition bytes) .accepted ≡ true →
-      sheetFrom edition (cardFileRow (checkOf edition bytes) .numbers) .totals ≡ cardFileRow (checkOf edition bytes) .numbers .totals .settled)
+  pub sheet-there-and-back : NotSo (d .sheet-there-and-back .reads-back) ((s : Sheet) → readRow (readOf (bytesOf s)) ≡ readRow (Read s))
+  -- two sheets that differ, one of which is not allowed
+  pub sheets-different : NotSo (d .sheet-there-and-back .different) ((s t : Sheet) → sheetAllowed s ≡ true → bytesOf s ≡ bytesOf t → s ≡ t)
+  -- of bytes that are no readable sheet too
+  pub sheet-converted : NotSo (d .sheet-converted .readable) ((s : Sheet) → readRow (readOf (convertedBytes (bytesOf s))) ≡ readRow (Read (converted s)))
+  -- from version 2 and back, also where the split is known
+  pub from-two-and-back : NotSo (d .sheet-converted .from-two-and-back)
+      ((l : List ℕ) → readRow (readOf l) .refusal ≡ noRefusal → convertedBytes (convertedBytes l) ≡ l)
+  -- the sheet of a file: document 01's as it is
+  pub both-sets-added : NotSo (d .sheet-of-file .both-sets-added)
+      ((edition : ℕ) (bytes : List ℕ) (kept : Kept edition bytes) →
+      bytesOf (sheetFrom edition (cardFileRow (checkOf edition bytes) .numbers)) ≡ bytesOf (plainSheet1 edition (kept .file)))
   -- of records with an LF too
   pub fed-as-whole : NotSo (d .fed-as-whole) ((edition : ℕ) (records : List (List ℕ)) → FedAsWhole edition records)
   -- of a state that is not refused too
