@@ -1,5 +1,5 @@
 #!/usr/bin/env python3
-"""The cases of the programs' work, written by hand from document 01 and requests Q-7 and Q-4 of document 02.
+"""The cases of the programs' work, written by hand from document 01 and requests Q-4, Q-5 and Q-7 of document 02.
 
     tests/file_cases.py
 
@@ -12,7 +12,7 @@ A case is a line of what was asked, the text that the program says, and then wha
 other file.
 """
 from made import SALE, card_file, payroll_file
-from samples import FILES
+from samples import FILES, sheet
 from stored import CRATES, hashed, number, write_cases
 
 # ---- The files -----------------------------------------------------------------------------------------------------------------------------
@@ -22,14 +22,38 @@ LONG = list(card_file([[SALE] * 700]))
 # An L0 of 70,000 bytes.
 WIDE = LONG[0] + b"L0".ljust(70000) + b"\r\n"
 
+DAY_SHEET, OLD_SHEET = FILES["day.sheet"], FILES["old.sheet"]
+# Where the last byte of the version stands, and the split.
+VERSION, SPLIT = 4, 52
+
+
+def with_byte(content, at, byte):
+    return content[:at] + bytes([byte]) + content[at + 1:]
+
+
 DATA = {
     **FILES,
     "long.card": b"".join(LONG),
     "cut.card": b"".join(LONG[:-1]),
     "wide.card": WIDE,
     "long.payroll": b"".join(payroll_file([[(b"ANA SOUZA", 123456)] * 600])),
-    "short.sheet": FILES["day.sheet"][:-1],
-    "longer.sheet": FILES["day.sheet"] + b"\0",
+    "51.sheet": OLD_SHEET[:-1],
+    "53.sheet": OLD_SHEET + b"\0",
+    "80.sheet": DAY_SHEET[:-1],
+    "82.sheet": DAY_SHEET + b"\0",
+    # version 2 in 52 bytes, and 1 in 81
+    "2-in-52.sheet": with_byte(OLD_SHEET, VERSION, 2),
+    "1-in-81.sheet": with_byte(DAY_SHEET, VERSION, 1),
+    "split-0.sheet": sheet(2, (4, 4), (65990, 8), (1650, 8), (64340, 8), (0, 1), (0, 4), (0, 8), (0, 8), (0, 8)),
+    "split-2.sheet": with_byte(DAY_SHEET, SPLIT, 2),
+    # a forecast, though the split is not known
+    "split-0-forecast.sheet": with_byte(DAY_SHEET, SPLIT, 0),
+    "no-forecast.sheet": sheet(2, (4, 4), (65990, 8), (1650, 8), (64340, 8), (1, 1), (0, 4), (0, 8), (0, 8), (0, 8)),
+    # both counts make 999,999, and both totals 10^17 - 1; in the other sheet the counts make a million
+    "largest.sheet": sheet(2, (500000, 4), (50000000000000000, 8), (20000000000000000, 8), (30000000000000000, 8), (1, 1),
+                           (499999, 4), (49999999999999999, 8), (19999999999999999, 8), (30000000000000000, 8)),
+    "too-large.sheet": sheet(2, (500000, 4), (50000000000000000, 8), (20000000000000000, 8), (30000000000000000, 8), (1, 1),
+                             (500000, 4), (49999999999999999, 8), (19999999999999999, 8), (30000000000000000, 8)),
     "empty": b"",
     "no-line-end.card": FILES["day.card"][:-2],
     "no-line-end.payroll": FILES["wages.payroll"][:-2],
@@ -68,9 +92,9 @@ def hash_of(content):
 # ---- What is printed -----------------------------------------------------------------------------------------------------------------------
 
 NO_FORECAST = b"FORECAST SALES 0\nFORECAST GROSS 0\nFORECAST DISCOUNT 0\nFORECAST NET 0\n"
-DAY = (b"ACCEPTED\nRECORDS 12\nBATCHES 3\n"
-       b"FORECAST SALES 1\nFORECAST GROSS 15000\nFORECAST DISCOUNT 375\nFORECAST NET 14625\n"
-       b"SETTLED SALES 3\nSETTLED GROSS 50990\nSETTLED DISCOUNT 1275\nSETTLED NET 49715\n")
+DAY_SETS = (b"FORECAST SALES 1\nFORECAST GROSS 15000\nFORECAST DISCOUNT 375\nFORECAST NET 14625\n"
+            b"SETTLED SALES 3\nSETTLED GROSS 50990\nSETTLED DISCOUNT 1275\nSETTLED NET 49715\n")
+DAY = b"ACCEPTED\nRECORDS 12\nBATCHES 3\n" + DAY_SETS
 ADJUSTED = (b"ACCEPTED\nRECORDS 11\nBATCHES 2\n" + NO_FORECAST
             + b"SETTLED SALES 2\nSETTLED GROSS 25000\nSETTLED DISCOUNT 625\nSETTLED NET 24375\n")
 LONG_DAY = (b"ACCEPTED\nRECORDS 704\nBATCHES 1\n" + NO_FORECAST
@@ -96,22 +120,47 @@ OUT_NO_FILE = b"OUT is there and no regular file: give a file's name, or one tha
 
 NO_OUT = b"no OUT\n"
 BEFORE = b"from before\n"
-# DSH, version 1, edition 2, 20231115, 000042, and 3, 4, 65990 (101C6), 1650 (672), 64340 (FB54), high byte first.
-SHEET_IN_HEX = b"445348" b"0001" b"02" b"3230323331313135" b"303030303432" b"00000003" b"00000004" b"00000000000101c6" b"0000000000000672" b"000000000000fb54\n"
-# The same of the day with adjustments, which are not on its sheet: 000043, and 2, 2, 25000 (61A8), 625 (271), 24375 (5F37).
-ADJUSTED_IN_HEX = b"445348" b"0001" b"02" b"3230323331313135" b"303030303433" b"00000002" b"00000002" b"00000000000061a8" b"0000000000000271" b"0000000000005f37\n"
+# DSH, version 2, edition 2, 20231115, 000042, and 3; settled 3, 50990 (C72E), 1275 (4FB), 49715 (C233); 1, since the split is known; and forecast 1,
+# 15000 (3A98), 375 (177), 14625 (3921), high byte first.
+DAY_IN_HEX = (b"445348" b"0002" b"02" b"3230323331313135" b"303030303432" b"00000003"
+              b"00000003" b"000000000000c72e" b"00000000000004fb" b"000000000000c233"
+              b"01" b"00000001" b"0000000000003a98" b"0000000000000177" b"0000000000003921\n")
+# The same of the day with adjustments, which are not on its sheet: 000043, and 2; 2, 25000 (61A8), 625 (271), 24375 (5F37); 1, and no forecast.
+ADJUSTED_IN_HEX = (b"445348" b"0002" b"02" b"3230323331313135" b"303030303433" b"00000002"
+                   b"00000002" b"00000000000061a8" b"0000000000000271" b"0000000000005f37"
+                   b"01" b"00000000" b"0000000000000000" b"0000000000000000" b"0000000000000000\n")
+# Version 1 of the day, with both sets added: 4, 65990 (101C6), 1650 (672), 64340 (FB54).
+OLD_IN_HEX = (b"445348" b"0001" b"02" b"3230323331313135" b"303030303432" b"00000003"
+              b"00000004" b"00000000000101c6" b"0000000000000672" b"000000000000fb54\n")
+# And that one in version 2: all of it settled, 0, since the split is not known, and no forecast.
+SPLIT_0_IN_HEX = (b"445348" b"0002" b"02" b"3230323331313135" b"303030303432" b"00000003"
+                  b"00000004" b"00000000000101c6" b"0000000000000672" b"000000000000fb54"
+                  b"00" b"00000000" b"0000000000000000" b"0000000000000000" b"0000000000000000\n")
+# The largest sheet in version 1: 999999 (F423F), 10^17 - 1 (16345785D89FFFF), 39999999999999999 (8E1BC9BF03FFFF), 6 * 10^16 (D529AE9E860000).
+LARGEST_IN_HEX = (b"445348" b"0001" b"02" b"3230323331313135" b"303030303432" b"00000003"
+                  b"000f423f" b"016345785d89ffff" b"008e1bc9bf03ffff" b"00d529ae9e860000\n")
 
-READ_AGAIN = b"EDITION 2\nDATE 20231115\nMOVEMENT 000042\nBATCHES 3\nSALES 4\nGROSS 65990\nDISCOUNT 1650\nNET 64340\n"
-NO_SHEET = refused(15, 0, 0)
+HEADING = b"EDITION 2\nDATE 20231115\nMOVEMENT 000042\nBATCHES 3\n"
+OLD_NUMBERS = HEADING + b"SALES 4\nGROSS 65990\nDISCOUNT 1650\nNET 64340\n"
+DAY_NUMBERS = b"VERSION 2\n" + HEADING + b"SPLIT 1\n" + DAY_SETS
+ALL_SETTLED = NO_FORECAST + b"SETTLED SALES 4\nSETTLED GROSS 65990\nSETTLED DISCOUNT 1650\nSETTLED NET 64340\n"
+SPLIT_0_NUMBERS = b"VERSION 2\n" + HEADING + b"SPLIT 0\n" + ALL_SETTLED
+NO_FORECAST_NUMBERS = b"VERSION 2\n" + HEADING + b"SPLIT 1\n" + ALL_SETTLED
+LARGEST_NUMBERS = (b"VERSION 2\n" + HEADING + b"SPLIT 1\n"
+                   b"FORECAST SALES 499999\nFORECAST GROSS 49999999999999999\nFORECAST DISCOUNT 19999999999999999\nFORECAST NET 30000000000000000\n"
+                   b"SETTLED SALES 500000\nSETTLED GROSS 50000000000000000\nSETTLED DISCOUNT 20000000000000000\nSETTLED NET 30000000000000000\n")
+LARGEST_ADDED = HEADING + b"SALES 999999\nGROSS 99999999999999999\nDISCOUNT 39999999999999999\nNET 60000000000000000\n"
+NO_SHEET, NO_VERSION, NO_NUMBERS = refused(15, 0, 0), refused(16, 0, 0), refused(17, 0, 0)
 
 # ---- The steps -----------------------------------------------------------------------------------------------------------------------------
 
 # What is asked, or done to the folder `work` of a case and to OUT in it (src/step.rt).
-CARD, PAYROLL, MASK, SHEET, READ = b"C", b"P", b"M", b"S", b"R"
+CARD, PAYROLL, MASK, SHEET, READ, CONVERT = b"C", b"P", b"M", b"S", b"R", b"V"
 FOLDER, PUT, LINES, HEX, HASH, LEAVE = b"F", b"W", b"L", b"X", b"H", b"E"
 
 WORK = b"work"
 OUT = b"work/out"
+BACK = b"work/back"
 
 STEPS = []
 STDOUT = []
@@ -135,11 +184,16 @@ def enter(before=b""):
         step(PUT, file=before, out=OUT)
 
 
-def leave(shown, content):
-    """Shows what stands at OUT, and removes it and the folder."""
-    step(shown, out=OUT)
-    step(LEAVE, out=WORK)
+def show(shown, content, out=OUT):
+    """Shows what stands at OUT, and removes it."""
+    step(shown, out=out)
     STDOUT.append(content)
+
+
+def leave(shown, content):
+    """The same, and removes the folder."""
+    show(shown, content)
+    step(LEAVE, out=WORK)
 
 
 def ask_alone(letter, title, edition, file, text, shown, content, before=b"", out=OUT):
@@ -149,12 +203,21 @@ def ask_alone(letter, title, edition, file, text, shown, content, before=b"", ou
     leave(shown, content)
 
 
-def ask_with_a_folder(letter, title):
+def ask_with_a_folder(letter, title, file=b"day.card"):
     """Where OUT is a folder."""
     enter()
     step(FOLDER, out=OUT)
-    ask(letter, title, b"2", b"day.card", OUT_NO_FILE, OUT)
+    ask(letter, title, b"2", file, OUT_NO_FILE, OUT)
     leave(LINES, b"OUT is a folder\n")
+
+
+def ask_there_and_back(title, file, text, content, text_back, content_back):
+    """A sheet in the other version, and that one converted again."""
+    enter()
+    ask(CONVERT, title, b"", file, text, OUT)
+    ask(CONVERT, b"and back", b"", OUT, text_back, BACK)
+    show(HEX, content_back, BACK)
+    leave(HEX, content)
 
 
 # ---- The cases -----------------------------------------------------------------------------------------------------------------------------
@@ -209,13 +272,13 @@ ask_alone(MASK, b"mask, FILE is a folder", b"2", WORK, NO_READ, LINES, BEFORE, b
 ask_alone(MASK, b"mask, no folder for OUT", b"2", b"day.card", NO_WRITE, LINES, NO_OUT, out=b"work/none/out")
 ask_with_a_folder(MASK, b"mask, OUT is a folder")
 
-ask_alone(SHEET, b"sheet, a day", b"2", b"day.card", DAY, HEX, SHEET_IN_HEX)
-ask_alone(SHEET, b"sheet, a day over an OUT", b"2", b"day.card", DAY, HEX, SHEET_IN_HEX, before=BEFORE)
+ask_alone(SHEET, b"sheet, a day", b"2", b"day.card", DAY, HEX, DAY_IN_HEX)
+ask_alone(SHEET, b"sheet, a day over an OUT", b"2", b"day.card", DAY, HEX, DAY_IN_HEX, before=BEFORE)
 ask_alone(SHEET, b"sheet, a day with adjustments", b"2", b"adjusted.card", ADJUSTED, HEX, ADJUSTED_IN_HEX)
 enter()
 ask(SHEET, b"sheet, a day, to be read", b"2", b"day.card", DAY, OUT)
-ask(READ, b"sheet read, what was written", b"", OUT, READ_AGAIN)
-leave(HEX, SHEET_IN_HEX)
+ask(READ, b"sheet read, what was written", b"", OUT, DAY_NUMBERS)
+leave(HEX, DAY_IN_HEX)
 ask_alone(SHEET, b"sheet, refused", b"2", b"refused.card", REFUSED, HEX, NO_OUT)
 ask_alone(SHEET, b"sheet, refused over an OUT", b"2", b"refused.card", REFUSED, LINES, BEFORE, before=BEFORE)
 ask_alone(SHEET, b"sheet, edition 3 over an OUT", b"3", b"day.card", BAD_EDITION, LINES, BEFORE, before=BEFORE)
@@ -228,13 +291,53 @@ ask_alone(SHEET, b"sheet, FILE is a folder", b"2", WORK, NO_READ, LINES, BEFORE,
 ask_alone(SHEET, b"sheet, no folder for OUT", b"2", b"day.card", NO_WRITE, HEX, NO_OUT, out=b"work/none/out")
 ask_with_a_folder(SHEET, b"sheet, OUT is a folder")
 
-ask(READ, b"sheet read, a day", b"", b"day.sheet", READ_AGAIN)
-ask(READ, b"sheet read, 51 bytes", b"", b"short.sheet", NO_SHEET)
-ask(READ, b"sheet read, 53 bytes", b"", b"longer.sheet", NO_SHEET)
+ask(READ, b"sheet read, a day", b"", b"day.sheet", DAY_NUMBERS)
+ask(READ, b"sheet read, version 1", b"", b"old.sheet", OLD_NUMBERS)
+ask(READ, b"sheet read, split 0", b"", b"split-0.sheet", SPLIT_0_NUMBERS)
+ask(READ, b"sheet read, split 1 and no forecast", b"", b"no-forecast.sheet", NO_FORECAST_NUMBERS)
+ask(READ, b"sheet read, the largest numbers", b"", b"largest.sheet", LARGEST_NUMBERS)
+for size in b"51", b"53", b"80", b"82":
+    ask(READ, b"sheet read, " + size + b" bytes", b"", size + b".sheet", NO_SHEET)
+ask(READ, b"sheet read, version 2 in 52 bytes", b"", b"2-in-52.sheet", NO_VERSION)
+ask(READ, b"sheet read, version 1 in 81 bytes", b"", b"1-in-81.sheet", NO_VERSION)
+ask(READ, b"sheet read, split 2", b"", b"split-2.sheet", NO_NUMBERS)
+ask(READ, b"sheet read, split 0 and a forecast", b"", b"split-0-forecast.sheet", NO_NUMBERS)
+ask(READ, b"sheet read, a million sales in both sets", b"", b"too-large.sheet", NO_NUMBERS)
 ask(READ, b"sheet read, empty", b"", b"empty", NO_SHEET)
 ask(READ, b"sheet read, a card file", b"", b"day.card", NO_SHEET)
 ask(READ, b"sheet read, a folder", b"", b".", NO_READ)
 ask(READ, b"sheet read, no such file", b"", b"none", NO_FILE)
+
+ask_alone(CONVERT, b"convert, version 1", b"", b"old.sheet", SPLIT_0_NUMBERS, HEX, SPLIT_0_IN_HEX)
+ask_alone(CONVERT, b"convert, version 2", b"", b"day.sheet", OLD_NUMBERS, HEX, OLD_IN_HEX)
+ask_alone(CONVERT, b"convert, split 0", b"", b"split-0.sheet", OLD_NUMBERS, HEX, OLD_IN_HEX)
+ask_alone(CONVERT, b"convert, split 1 and no forecast", b"", b"no-forecast.sheet", OLD_NUMBERS, HEX, OLD_IN_HEX)
+ask_alone(CONVERT, b"convert, the largest numbers", b"", b"largest.sheet", LARGEST_ADDED, HEX, LARGEST_IN_HEX)
+# from 1 to 2 and back, and from 2 with split 0 to 1 and back
+ask_there_and_back(b"convert, version 1 there", b"old.sheet", SPLIT_0_NUMBERS, SPLIT_0_IN_HEX, OLD_NUMBERS, OLD_IN_HEX)
+ask_there_and_back(b"convert, split 0 there", b"split-0.sheet", OLD_NUMBERS, OLD_IN_HEX, SPLIT_0_NUMBERS, SPLIT_0_IN_HEX)
+# OUT is FILE itself
+enter(before=DATA["old.sheet"])
+ask(CONVERT, b"convert, OUT is FILE", b"", OUT, SPLIT_0_NUMBERS, OUT)
+leave(HEX, SPLIT_0_IN_HEX)
+ask_alone(CONVERT, b"convert, version 1 over an OUT", b"", b"old.sheet", SPLIT_0_NUMBERS, HEX, SPLIT_0_IN_HEX, before=BEFORE)
+ask_alone(CONVERT, b"convert, version 2 over a longer OUT", b"", b"day.sheet", OLD_NUMBERS, HEX, OLD_IN_HEX, before=DATA["day.sheet"])
+for size in b"51", b"53", b"80", b"82":
+    ask_alone(CONVERT, b"convert, " + size + b" bytes", b"", size + b".sheet", NO_SHEET, LINES, NO_OUT)
+ask_alone(CONVERT, b"convert, a card file over an OUT", b"", b"day.card", NO_SHEET, LINES, BEFORE, before=BEFORE)
+ask_alone(CONVERT, b"convert, version 2 in 52 bytes over an OUT", b"", b"2-in-52.sheet", NO_VERSION, LINES, BEFORE, before=BEFORE)
+ask_alone(CONVERT, b"convert, version 1 in 81 bytes", b"", b"1-in-81.sheet", NO_VERSION, LINES, NO_OUT)
+ask_alone(CONVERT, b"convert, split 2", b"", b"split-2.sheet", NO_NUMBERS, LINES, NO_OUT)
+ask_alone(CONVERT, b"convert, split 0 and a forecast over an OUT", b"", b"split-0-forecast.sheet", NO_NUMBERS, LINES, BEFORE, before=BEFORE)
+ask_alone(CONVERT, b"convert, a million sales in both sets", b"", b"too-large.sheet", NO_NUMBERS, LINES, NO_OUT)
+ask_alone(CONVERT, b"convert, empty", b"", b"empty", NO_SHEET, LINES, NO_OUT)
+enter(before=DATA["82.sheet"])
+ask(CONVERT, b"convert, refused, and OUT is FILE", b"", OUT, NO_SHEET, OUT)
+leave(HEX, DAY_IN_HEX[:-1] + b"00\n")
+ask_alone(CONVERT, b"convert, no such file", b"", b"none", NO_FILE, LINES, BEFORE, before=BEFORE)
+ask_alone(CONVERT, b"convert, FILE is a folder", b"", WORK, NO_READ, LINES, BEFORE, before=BEFORE)
+ask_alone(CONVERT, b"convert, no folder for OUT", b"", b"old.sheet", NO_WRITE, LINES, NO_OUT, out=b"work/none/out")
+ask_with_a_folder(CONVERT, b"convert, OUT is a folder", b"old.sheet")
 
 
 def main():

@@ -23,6 +23,11 @@ def instalment(number, of, gross, discount):
     return dict(product=b"C", instalment=number, instalments=of, instalment_nsu=number, instalment_gross=gross, instalment_discount=discount)
 
 
+def sheet(version, *numbers):
+    """A day sheet: edition 2, 15 November 2023, movement 42, 3 batches, and then these numbers, each with its width."""
+    return b"DSH" + bytes([0, version, 2]) + b"20231115" b"000042" + b"".join(number.to_bytes(width, "big") for number, width in ((3, 4), *numbers))
+
+
 # Payable: 10000 - 250, 25990 - 650; 15000 - 375, and 15000 - 375 of an instalment that is forecast for January; and a batch of no sale.
 DAY = [
     [sale(b"POSTO AURORA", 10000, 250, b"4111111111111111"),
@@ -32,9 +37,11 @@ DAY = [
     [],
 ]
 
-# Its day sheet: edition 2, 15 November 2023, movement 42, 3 batches, 4 sales, forecast or settled, and the totals of what is payable.
-SHEET = b"DSH" + bytes([0, 1, 2]) + b"20231115" b"000042" + b"".join(
-    number.to_bytes(width, "big") for number, width in ((3, 4), (4, 4), (65990, 8), (1650, 8), (64340, 8)))
+
+# The day's sheet: the settled sales and what is payable for them, 1 for a split that is known, and the same of the forecast.
+SHEET = sheet(2, (3, 4), (50990, 8), (1275, 8), (49715, 8), (1, 1), (1, 4), (15000, 8), (375, 8), (14625, 8))
+# The same day in version 1: all sales, forecast or settled.
+OLD_SHEET = sheet(1, (4, 4), (65990, 8), (1650, 8), (64340, 8))
 
 # A day with adjustments. To L9 go 10000 and a credit of 2925; 15000 less a debit of 4875, and a credit of 1500 for no sale.
 # Names have their accents, each one byte.
@@ -66,6 +73,7 @@ FILES = {
     "refused.card": b"".join(refused()),
     "wages.payroll": b"".join(payroll_file(WAGES)),
     "day.sheet": SHEET,
+    "old.sheet": OLD_SHEET,
 }
 
 # What a program is run on: its standard input, or its data.

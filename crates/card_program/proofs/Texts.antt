@@ -27,7 +27,7 @@ totals-short word t =
       line-short (ascii "NET") (t .amounts .net),
     ))
 
-sets-short : (s : TwoSets) → length (setsText s) ≤ 286
+pub sets-short : (s : TwoSets) → length (setsText s) ≤ 286
 unfolding setsText
 sets-short s = simp length-append (omega (arith, totals-short (ascii "FORECAST ") (s .forecast), totals-short (ascii "SETTLED ") (s .settled)))
 

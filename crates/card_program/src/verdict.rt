@@ -47,7 +47,7 @@ pub fn put_totals(word: &[u8], totals: Totals, out: &mut [u8], at: usize) -> usi
 }
 
 // Of both sets.
-fn put_sets(sets: TwoSets, out: &mut [u8], at: usize) -> usize
+pub fn put_sets(sets: TwoSets, out: &mut [u8], at: usize) -> usize
     ensures { λ r. ⌜ Puts (setsText sets) (now (out .entry)) at r (now (out .exit)) ⌝ }
 {
     let forecast = put_totals(b"FORECAST ", sets.forecast, out, at);

@@ -2,9 +2,12 @@
 use card_program::outcome::Outcome;
 use cases::print;
 use payroll_program::check;
+use sheet_program::convert;
 use sheet_program::read;
+use sheet_program::read::SheetOutcome;
 
-// The letters of the questions: a card file or a payroll file is checked, a card file masked into OUT, its day sheet written to OUT, and a day sheet read.
+// The letters of the questions: a card file or a payroll file is checked, a card file masked into OUT, its day sheet written to OUT, and a day sheet read, or
+// converted into OUT.
 const CARD: u64 = b'C' as u64;
 
 const PAYROLL: u64 = b'P' as u64;
@@ -15,8 +18,10 @@ const SHEET: u64 = b'S' as u64;
 
 const READ: u64 = b'R' as u64;
 
+const CONVERT: u64 = b'V' as u64;
+
 // Room for every text.
-const ROOM: usize = 256;
+const ROOM: usize = 448;
 
 fn print_first(text: &[u8], size: usize) {
     if size <= text.len() {
@@ -28,6 +33,13 @@ fn print_first(text: &[u8], size: usize) {
 fn print_outcome(outcome: Outcome) {
     let mut room = [0u8; ROOM];
     let size = card_program::verdict::put_outcome(outcome, &mut room, 0);
+    print_first(&room, size);
+}
+
+// The same of a day sheet.
+fn print_sheet(outcome: SheetOutcome) {
+    let mut room = [0u8; ROOM];
+    let size = sheet_program::verdict::put_outcome(outcome, &mut room, 0);
     print_first(&room, size);
 }
 
@@ -47,13 +59,6 @@ fn print_payroll(file: &[u8]) {
     libc::close(fd);
 }
 
-// Reads a day sheet.
-fn print_sheet(file: &[u8]) {
-    let mut room = [0u8; ROOM];
-    let size = sheet_program::verdict::put_outcome(read::read(file), &mut room, 0);
-    print_first(&room, size);
-}
-
 // Asks the question of a letter, and prints what its program says.
 pub fn print(letter: u64, edition: &[u8], file: &[u8], out: &[u8]) {
     match letter {
@@ -61,7 +66,8 @@ pub fn print(letter: u64, edition: &[u8], file: &[u8], out: &[u8]) {
         PAYROLL => print_payroll(file),
         MASK => print_outcome(mask_program::work::work(edition, file, out)),
         SHEET => print_outcome(sheet_program::work::work(edition, file, out)),
-        READ => print_sheet(file),
+        READ => print_sheet(read::read(file)),
+        CONVERT => print_sheet(convert::convert(file, out)),
         _ => print::text(b"no such step\n"),
     }
 }

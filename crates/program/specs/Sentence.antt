@@ -15,7 +15,7 @@ abbrev pub argumentsOf : Program → List ℕ
 argumentsOf Card = ascii "card EDITION < FILE\n"
 argumentsOf Mask = ascii "mask EDITION FILE OUT\n"
 argumentsOf Payroll = ascii "payroll < FILE\n"
-argumentsOf Sheet = ascii "sheet EDITION FILE OUT, or sheet FILE\n"
+argumentsOf Sheet = ascii "sheet EDITION FILE OUT, or sheet --convert FILE OUT, or sheet FILE\n"
 
 -- what the system did not do, before the reason that it gives
 abbrev pub failedOf : Failed → List ℕ

@@ -46,7 +46,7 @@ pub fn read(number: usize, room: &mut [u8]) -> Argument
     argument_of(size, error::number())
 }
 
-// Reads the arguments EDITION, FILE and OUT, each into its room.
+// Reads the arguments EDITION, or what stands in its place, FILE and OUT, each into its room.
 pub fn read_three(edition: &mut [u8], file: &mut [u8], out: &mut [u8]) -> Three
     ensures { λ r. ⌜ threeIn (now (edition .exit)) (now (file .exit)) (now (out .exit)) r ⌝ }
 {

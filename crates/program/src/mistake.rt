@@ -47,7 +47,11 @@ fn put_arguments(program: Program, out: &mut [u8], at: usize) -> usize
         Program::Card => text(b"card EDITION < FILE\n", out, at),
         Program::Mask => text(b"mask EDITION FILE OUT\n", out, at),
         Program::Payroll => text(b"payroll < FILE\n", out, at),
-        Program::Sheet => text(b"sheet EDITION FILE OUT, or sheet FILE\n", out, at),
+        Program::Sheet => text(
+            b"sheet EDITION FILE OUT, or sheet --convert FILE OUT, or sheet FILE\n",
+            out,
+            at,
+        ),
     }
 }
 

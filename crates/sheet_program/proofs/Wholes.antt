@@ -1,34 +1,68 @@
--- A sheet that was written into 52 bytes is all of them.
-use Prim.Native.Nat.{ℕ}
+-- A sheet that was written into as many bytes as it has is all of them, and one that was converted is the first of them.
+use Prim.Native.Nat.{ℕ, _≤_}
 use mathlib.Core.Path.{_≡_, refl, sym, _∙_, ap}
 use mathlib.Core.List.{List, _++_, append-nil}
-use mathlib.Core.Bool.{Bool, true, false, cond, _&&_, true≢false}
+use mathlib.Core.Bool.{Bool, true, false, cond, true≢false}
 use native.Mathlib.Omega.{arith}
-use lib.ListN.{length, drop, drop-of-length-le}
-use lib.Dec.{leb}
+use lib.ListN.{length, take, drop, drop-of-length-le}
+use lib.Seq.{take-at}
 use borrow.Author.Tests.{le-leb}
+use Rattle.refusal.specs.declared.Refusal.{Refusal}
 use Rattle.refusal.specs.Nowhere.{nowhere}
-use Rattle.refusal.specs.declared.Cause.the-variants.{OutputTooShort, SheetNumbersNotAllowed}
+use Rattle.refusal.specs.declared.Cause.the-variants.{SheetNumbersNotAllowed}
 use Rattle.day_sheet.specs.declared.sheet.Sheet.{Sheet}
+use Rattle.day_sheet.specs.declared.reader.SheetRead.{SheetRead}
+use Rattle.day_sheet.specs.declared.reader.SheetRead.the-variants.{Read, Refused as unread}
 use Rattle.day_sheet.specs.declared.writer.SheetWritten.{SheetWritten}
 use Rattle.day_sheet.specs.declared.writer.SheetWritten.the-variants.{Written, Refused}
-use Rattle.day_sheet.specs.Layout.{bytesOf}
-use Rattle.day_sheet.specs.Sheet.{sheetAllowed}
-use Rattle.day_sheet.specs.Reading.{writeAnswer, writeResult, Writes}
+use Rattle.day_sheet.specs.declared.layout.Version.{Version}
+use Rattle.day_sheet.specs.declared.layout.Version.the-variants.{One, Two}
+use Rattle.day_sheet.specs.Version.{widthOf}
+use Rattle.day_sheet.specs.Sheet.{versionOf, bytesOf}
+use Rattle.day_sheet.specs.Allowed.{sheetAllowed}
+use Rattle.day_sheet.specs.Reading.{readOf}
+use Rattle.day_sheet.specs.Writing.{sheetWidth, putAnswer, putResult, writeAnswer, writeResult, Writes}
+use Rattle.day_sheet.specs.Conversion.{converted, convertResult, Converts}
+use Rattle.day_sheet.proofs.RoundTrip.{bytes-length}
+use Rattle.sheet_program.specs.SheetRead.{convertedRead}
 
 abbrev isWritten : SheetWritten → Bool
 isWritten Written = true
 isWritten (Refused refusal) = false
 
--- what writing answers, by whether the numbers are allowed
-abbrev answersTo : ℕ → Bool → SheetWritten
-answersTo room allowed = cond allowed (cond (leb 52 room) Written (Refused (nowhere OutputTooShort))) (Refused (nowhere SheetNumbersNotAllowed))
+module _ (sheet : Sheet) (out : List ℕ) where
+  put-there : sheetWidth sheet ≤ length out → putResult sheet out ≡ bytesOf sheet ++ drop (sheetWidth sheet) out
+  unfolding putResult
+  put-there h = rw (le-leb (sheetWidth sheet) (length out) h)
 
-pub whole-sheet : (sheet : Sheet) (out : List ℕ) {answer : SheetWritten} {after : List ℕ} → length out ≡ 52 → Writes sheet out answer after → answer ≡ Written →
-    after ≡ bytesOf sheet
-unfolding writeAnswer writeResult
-whole-sheet sheet out {answer} {after} l w e = w .leaves ∙ rw (le-leb 52 (length out) (omega arith)) (by (sheetAllowed sheet) refl)
-  where
-    by : (allowed : Bool) → sheetAllowed sheet ≡ allowed → cond (allowed && true) (bytesOf sheet ++ drop 52 out) out ≡ bytesOf sheet
-    by true is = ap (λ (rest : List ℕ). bytesOf sheet ++ rest) (drop-of-length-le out {i = 52} (omega arith)) ∙ append-nil (bytesOf sheet)
-    by false is = absurd (true≢false (ap isWritten (sym e ∙ w .answers) ∙ ap (λ (t : Bool). isWritten (answersTo (length out) t)) is))
+  pub whole-sheet : {answer : SheetWritten} {after : List ℕ} → length out ≡ sheetWidth sheet → Writes sheet out answer after → answer ≡ Written →
+      after ≡ bytesOf sheet
+  unfolding writeAnswer writeResult
+  whole-sheet {answer} {after} l w e = w .leaves ∙ by (sheetAllowed sheet) refl
+    where
+      by : (allowed : Bool) → sheetAllowed sheet ≡ allowed → cond allowed (putResult sheet out) out ≡ bytesOf sheet
+      by true is =
+          put-there (omega arith) ∙ ap (λ (rest : List ℕ). bytesOf sheet ++ rest) (drop-of-length-le out {i = sheetWidth sheet} (omega arith)) ∙
+          append-nil (bytesOf sheet)
+      by false is =
+          absurd (true≢false (ap isWritten (sym e ∙ w .answers) ∙
+          ap (λ (t : Bool). isWritten (cond t (putAnswer sheet (length out)) (Refused (nowhere SheetNumbersNotAllowed)))) is))
+
+-- there is room for either version
+pub width-within : (v : Version) {width : ℕ} → width ≡ widthOf v → width ≤ 81
+width-within One e = omega arith
+width-within Two e = omega arith
+
+pub front-sheet : (bytes out : List ℕ) (sheet : Sheet) {width : ℕ} {answer : SheetWritten} {after : List ℕ} → readOf bytes ≡ Read sheet → length out ≡ 81 →
+    width ≡ sheetWidth (converted sheet) → Converts bytes out answer after → take width after ≡ bytesOf (converted sheet)
+unfolding convertResult
+front-sheet bytes out sheet {width} {answer} {after} e l same w =
+    let new = converted sheet in
+    let room : sheetWidth new ≤ length out = omega (arith, width-within (versionOf new) refl) in
+    ap (λ (n : ℕ). take n after) same ∙
+    ap (take (sheetWidth new)) (w .leaves ∙ ap (λ (read : SheetRead). convertResult read out) e ∙ put-there new out room) ∙
+    take-at (bytesOf new) (drop (sheetWidth new) out) (sheetWidth new) (bytes-length new)
+
+-- a refusal stays as it is
+pub stays-refused : (bytes : List ℕ) {read : SheetRead} {r : Refusal} → read ≡ readOf bytes → read ≡ unread r → read ≡ convertedRead (readOf bytes)
+stays-refused bytes e f = f ∙ ap convertedRead (sym f ∙ e)

@@ -2,11 +2,21 @@
 ghost use Prim.Native.Nat.{_≤_};
 ghost use mathlib.Core.Path.{_≡_};
 ghost use Rattle.wording.specs.Put.{Puts};
-ghost use Rattle.sheet_program.specs.Verdict.{digitsLine, numbersText, readText, outcomeText, descriptorOf};
+ghost use Rattle.sheet_program.specs.Verdict.{
+  digitsLine,
+  headingText,
+  version1Text,
+  version2Text,
+  numbersText,
+  readText,
+  outcomeText,
+  descriptorOf,
+};
 use crate::read::SheetOutcome;
 use card_program::verdict;
 use day_sheet::number::Form;
 use day_sheet::reader::SheetRead;
+use day_sheet::sheet::Heading;
 use day_sheet::sheet::Sheet;
 use files::error;
 use libc::STDERR_FILENO;
@@ -14,6 +24,8 @@ use libc::STDOUT_FILENO;
 use program::mistake;
 use program::mistake::Failed;
 use program::mistake::Mistake;
+use totals::amounts::Totals;
+use totals::two_sets::TwoSets;
 use wording::line;
 use wording::put;
 
@@ -23,7 +35,7 @@ const DATE_DIGITS: usize = 8;
 const MOVEMENT_DIGITS: usize = 6;
 
 // Room for every text.
-const ROOM: usize = 256;
+const ROOM: usize = 448;
 
 // Each function here puts its text behind the first `at` bytes, and answers how many bytes stand there then. First a word and so many digits of a
 // number, of which a date has the most.
@@ -38,14 +50,43 @@ fn put_digits(name: &[u8], number: u64, width: usize, out: &mut [u8], at: usize)
     put::text(b"\n", out, end)
 }
 
+// What both versions begin with.
+fn put_heading(heading: Heading, out: &mut [u8], at: usize) -> usize
+    ensures { λ r. ⌜ Puts (headingText heading) (now (out .entry)) at r (now (out .exit)) ⌝ }
+{
+    let edition = line::line(b"EDITION", heading.edition, out, at);
+    let date = put_digits(b"DATE ", heading.date, DATE_DIGITS, out, edition);
+    let movement = put_digits(b"MOVEMENT ", heading.movement, MOVEMENT_DIGITS, out, date);
+    line::line(b"BATCHES", heading.batches, out, movement)
+}
+
+fn put_version1(heading: Heading, totals: Totals, out: &mut [u8], at: usize) -> usize
+    ensures { λ r. ⌜ Puts (version1Text heading totals) (now (out .entry)) at r (now (out .exit)) ⌝ }
+{
+    let end = put_heading(heading, out, at);
+    verdict::put_totals(b"", totals, out, end)
+}
+
+fn put_version2(heading: Heading, split: u64, sets: TwoSets, out: &mut [u8], at: usize) -> usize
+    ensures { λ r. ⌜ Puts (version2Text heading split sets) (now (out .entry)) at r (now (out .exit)) ⌝ }
+{
+    let version = line::line(b"VERSION", 2, out, at);
+    let end = put_heading(heading, out, version);
+    let known = line::line(b"SPLIT", split, out, end);
+    verdict::put_sets(sets, out, known)
+}
+
 fn put_numbers(sheet: Sheet, out: &mut [u8], at: usize) -> usize
     ensures { λ r. ⌜ Puts (numbersText sheet) (now (out .entry)) at r (now (out .exit)) ⌝ }
 {
-    let edition = line::line(b"EDITION", sheet.edition, out, at);
-    let date = put_digits(b"DATE ", sheet.date, DATE_DIGITS, out, edition);
-    let movement = put_digits(b"MOVEMENT ", sheet.movement, MOVEMENT_DIGITS, out, date);
-    let batches = line::line(b"BATCHES", sheet.batches, out, movement);
-    verdict::put_totals(b"", sheet.totals, out, batches)
+    match sheet {
+        Sheet::Version1 { heading, totals } => put_version1(heading, totals, out, at),
+        Sheet::Version2 {
+            heading,
+            split,
+            sets,
+        } => put_version2(heading, split, sets, out, at),
+    }
 }
 
 fn put_read(read: SheetRead, out: &mut [u8], at: usize) -> usize

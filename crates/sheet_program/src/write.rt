@@ -1,9 +1,10 @@
 // The day sheet of a card file, from file to file.
 ghost use mathlib.Core.Path.{_≡_};
-ghost use Rattle.day_sheet.specs.Layout.{bytesOf};
+ghost use Rattle.day_sheet.specs.Sheet.{bytesOf};
 ghost use Rattle.card_sheet.specs.SheetOf.{sheetFrom};
 ghost use Rattle.card_program.specs.Checked.{Checked};
 ghost use Rattle.out_file.specs.Saved.{tellsOfFiles};
+use crate::save;
 use card_program::check;
 use card_program::outcome::Outcome;
 use card_run::answer::Accepted;
@@ -12,33 +13,29 @@ use day_sheet::layout;
 use day_sheet::writer;
 use day_sheet::writer::SheetWritten;
 use files::error;
-use out_file::draft;
-use out_file::draft::Draft;
 use out_file::place;
 use out_file::saved::Saved;
 use program::mistake::Failed;
 use program::mistake::Mistake;
 
-// Writes the sheet of a file's numbers, and no other bytes, and gives it its name.
-fn fill(draft: Draft, edition: u64, numbers: Accepted, sheet: &[u8], out: &[u8]) -> Draft
-    requires { ⌜ now sheet ≡ bytesOf (sheetFrom edition numbers) ⌝ }
+// Saves the sheet of a file's numbers, and no other.
+fn save_sheet(edition: u64, numbers: Accepted, bytes: &[u8], out: &[u8]) -> Saved
+    requires { ⌜ now bytes ≡ bytesOf (sheetFrom edition numbers) ⌝ }
+    ensures { λ r. ⌜ tellsOfFiles r ⌝ }
 {
-    if draft.write(sheet) {
-        return draft.keep(out);
-    }
-    draft.noted().discard(out)
+    save::save(card_sheet::sheet_from(edition, numbers), bytes, out)
 }
 
 // Writes a file's numbers as a sheet into the file of this name.
-fn save(edition: u64, numbers: Accepted, out: &[u8]) -> Saved
+fn save_numbers(edition: u64, numbers: Accepted, out: &[u8]) -> Saved
     ensures { λ r. ⌜ tellsOfFiles r ⌝ }
 {
-    let mut sheet = [0u8; layout::WIDTH];
-    let SheetWritten::Written = writer::write(card_sheet::sheet_from(edition, numbers), &mut sheet)
+    let mut bytes = [0u8; layout::WIDTH_2];
+    let SheetWritten::Written = writer::write(card_sheet::sheet_from(edition, numbers), &mut bytes)
     else {
         return Saved::Told(Mistake::System(Failed::Write, 0));
     };
-    fill(draft::begin(out), edition, numbers, &sheet, out).saved()
+    save_sheet(edition, numbers, &bytes, out)
 }
 
 // Saves the sheet of an accepted file; any other answer has none.
@@ -48,7 +45,7 @@ fn save_answer(edition: u64, answer: CardAnswer, out: &[u8]) -> Outcome
     let CardAnswer::Accepted(numbers) = answer else {
         return Outcome::Answer(answer);
     };
-    match save(edition, numbers, out) {
+    match save_numbers(edition, numbers, out) {
         Saved::Kept => Outcome::Answer(answer),
         Saved::Told(mistake) => Outcome::Mistake(mistake),
     }

@@ -1,14 +1,16 @@
--- `sheet_program::verdict::put_numbers` meets its contract: four lines and those of the totals, one behind the other.
-use Rattle.wording.proofs.Putting.{both, last}
+-- `sheet_program::verdict::put_numbers` meets its contract: each arm's equation picks the case of `numbersText`.
+use mathlib.Core.Path.{sym, ap}
+use Rattle.wording.proofs.Putting.{reworded}
 use Rattle.sheet_program.specs.Verdict.{numbersText}
 use borrow.Author.Needs.{needs}
 use Rattle.sheet_program.proofs.verdict.put_numbers.Statement.{statement}
 use Rattle.sheet_program.proofs.verdict.put_numbers.Tie as tie
 
 returns : tie.Need-returns
-unfolding numbersText
-returns c =
-    both (c .before .before .before .before .before .before .before .before .before .before .before .before .before .before .before .before .before .before .before .before .before .before .line .ensures) (both (c .before .before .before .before .before .before .before .before .before .before .before .before .before .before .before .before .before .put-digits .ensures) (both (c .before .before .before .before .before .before .before .before .before .before .before .before .put-digits2 .ensures) (both (c .before .before .before .before .before .before .before .line2 .ensures) (last (c .before .before .put-totals .ensures)))))
+returns c = reworded (ap numbersText (sym (c .before .before .before .before .before .sheet .given .1))) (c .before .before .put-version1 .ensures)
+
+returns-2 : tie.Need-returns-2
+returns-2 c = reworded (ap numbersText (sym (c .before .before .before .before .before .sheet2 .given .1))) (c .before .before .put-version2 .ensures)
 
 pub put-numbers-spec : {M : Type 1} → statement M
 put-numbers-spec =
@@ -17,12 +19,8 @@ put-numbers-spec =
     (λ c. search needs)
     (λ c κs. tt)
     (λ c. search needs)
-    (λ c κs. search needs)
-    (λ c. search needs)
-    (λ c κs. search needs)
-    (λ c. search needs)
     (λ c κs. tt)
     (λ c. search needs)
-    (λ c κs. tt)
+    returns
     (λ c. search needs)
-    returns)
+    returns-2)

@@ -9,7 +9,7 @@ returns-2 : tie.Need-returns-2
 returns-2 c w = (w .0, sym (c .before .before .before .before .answer .given .1) ∙ w .1)
 
 returns-3 : tie.Need-returns-3
-returns-3 c w = subst tellsOfFiles (c .before .mistake .given .1) (c .before .before .before .save .ensures)
+returns-3 c w = subst tellsOfFiles (c .before .mistake .given .1) (c .before .before .before .save-numbers .ensures)
 
 pub save-answer-spec : {M : Type 1} → statement M
 save-answer-spec =
