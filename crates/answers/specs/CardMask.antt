@@ -5,7 +5,6 @@ use lib.ListN.{length, take}
 use denote.Ref.{now}
 use Rattle.text.specs.Literal.{ascii}
 use Rattle.refusal.specs.declared.Cause.the-variants.{EditionUnknown, OutputTooShort, SequenceWrong, KindUnknown, WrongWidth, FieldNotOffered}
-use Rattle.card_run.specs.declared.answer.CardAnswer.{CardAnswer}
 use Rattle.card_run.specs.declared.answer.CardAnswer.the-variants.{Refused}
 use Rattle.sale_field.specs.declared.FieldAnswer.the-variants.{Offered, Refused as notOffered}
 use Rattle.day_sheet.specs.declared.sheet.Sheet.{Sheet}

@@ -81,7 +81,7 @@ module _ {edition : ℕ} {bytes : List ℕ} (k : Kept edition bytes) (a : Number
       let between = known-between edition (k .edition-known) in
       let few-batches : length (k .file .batches) ≤ 999999 = omega (arith, p .records, p .records-below, batches-below (k .file)) in
       let date-right : isDay (numberAt 9 16 (k .file .a0)) ≡ true = k .keeps .a0 .fields .1 .0 .1 in
-      rw (le-leb _ _ (between .0), le-leb _ _ (between .1), le-leb _ _ movement-below, le-leb _ _ few-batches, date-right)
+      rw (le-leb _ _ (between .0), le-leb _ _ (between .1), date-right, le-leb _ _ movement-below, le-leb _ _ few-batches)
 
   sets-allowed : setsAllowed (a .totals) ≡ true
   unfolding setsAllowed

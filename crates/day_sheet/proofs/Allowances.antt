@@ -80,26 +80,26 @@ sets-within s e =
 -- a heading that is allowed
 pub record HeadingWithin (h : Heading) : Type 0 where
   pub edition : h .edition ≤ 2
+  pub day : isDay (h .date) ≡ true
   pub movement : h .movement ≤ 999999
   pub batches : h .batches ≤ 999999
-  pub day : isDay (h .date) ≡ true
 
 pub heading-within : (h : Heading) → headingAllowed h ≡ true → HeadingWithin h
 unfolding headingAllowed
 heading-within h e =
     let from = leb 1 (h .edition) in
     let to = leb (h .edition) 2 in
+    let day = isDay (h .date) in
     let movement = leb (h .movement) 999999 in
     let batches = leb (h .batches) 999999 in
-    let day = isDay (h .date) in
-    let e₁ = both-right from (to && (movement && (batches && day))) e in
-    let e₂ = both-right to (movement && (batches && day)) e₁ in
-    let e₃ = both-right movement (batches && day) e₂ in
+    let e₁ = both-right from (to && (day && (movement && batches))) e in
+    let e₂ = both-right to (day && (movement && batches)) e₁ in
+    let e₃ = both-right day (movement && batches) e₂ in
     record {
-      edition = leb-true _ _ (both-left to (movement && (batches && day)) e₁);
-      movement = leb-true _ _ (both-left movement (batches && day) e₂);
-      batches = leb-true _ _ (both-left batches day e₃);
-      day = both-right batches day e₃;
+      edition = leb-true _ _ (both-left to (day && (movement && batches)) e₁);
+      day = both-left day (movement && batches) e₂;
+      movement = leb-true _ _ (both-left movement batches e₃);
+      batches = leb-true _ _ (both-right movement batches e₃);
     }
 
 -- a split that is allowed has room in its byte

@@ -1,21 +1,20 @@
 -- From one version to the other: what is converted is allowed, so it is readable and is what the writer would write; from version 1 to 2 and back the bytes are the same,
 -- and so they are from version 2 with split 0.
-use Prim.Native.Nat.{ℕ, _+_, _≤_, _<_}
+use Prim.Native.Nat.{ℕ, _+_}
 use mathlib.Core.Path.{_≡_, refl, sym, _∙_, ap}
 use mathlib.Core.List.{List}
-use mathlib.Core.Bool.{Bool, true, false, _&&_, _||_}
+use mathlib.Core.Bool.{true, _&&_}
 use native.Mathlib.Omega.{arith}
 use native.Mathlib.Nat.{zero-add}
-use borrow.Author.Tests.{le-leb, lt-ltb, eq-eqb, eqb-true}
+use borrow.Author.Tests.{eq-eqb, eqb-true}
 use lib.Dec.{eqb}
 use lib.Pow.{areBytes}
 use Rattle.text.proofs.Alphabets.{both, both-left, both-right}
 use Rattle.totals.specs.declared.amounts.Totals.{Totals}
 use Rattle.totals.specs.declared.two_sets.TwoSets.{TwoSets}
-use Rattle.totals.specs.Amounts.{agreeing, noTotals, addedTotals, TotalsFit}
+use Rattle.totals.specs.Amounts.{agreeing, noTotals, addedTotals}
 use Rattle.totals.specs.TwoSets.{setsOf, bothSets, summed}
 use Rattle.totals.proofs.Totals.{neutral}
-use Rattle.day_sheet.specs.declared.sheet.Heading.{Heading}
 use Rattle.day_sheet.specs.declared.sheet.Sheet.{Sheet}
 use Rattle.day_sheet.specs.declared.sheet.Sheet.the-variants.{Version1, Version2}
 use Rattle.day_sheet.specs.declared.reader.SheetRead.the-variants.{Read}
@@ -25,7 +24,7 @@ use Rattle.day_sheet.specs.Reading.{readOf}
 use Rattle.day_sheet.specs.Writing.{writeAnswer, writeResult}
 use Rattle.day_sheet.specs.Answer.{readRow}
 use Rattle.day_sheet.specs.Conversion.{converted, convertAnswer, convertResult, bytesOfRead, convertedBytes}
-use Rattle.day_sheet.proofs.Allowances.{Within, within, set-within, set-agrees, sum-plain, SetsWithin, sets-within}
+use Rattle.day_sheet.proofs.Allowances.{set-within, set-agrees, sum-plain, sets-within}
 use Rattle.day_sheet.proofs.RoundTrip.{reads-back, read-allowed, the-one-we-write}
 
 -- no sale added changes no allowed totals

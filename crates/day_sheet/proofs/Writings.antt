@@ -1,9 +1,8 @@
 -- The cases of putting and of writing, by what their tests say; what is put are a sheet's bytes, for either version.
 use Prim.Native.Nat.{ℕ, _+_, _≤_, _<_}
-use mathlib.Core.Path.{_≡_, refl, sym, _∙_, ap}
+use mathlib.Core.Path.{_≡_, sym, _∙_, ap}
 use mathlib.Core.List.{List, _++_}
 use mathlib.Core.Bool.{true, false}
-use native.Mathlib.Omega.{arith}
 use borrow.Author.Tests.{le-leb, lt-leb}
 use lib.ListN.{length, take, drop}
 use lib.Dec.{lit≤}
@@ -14,7 +13,7 @@ use Rattle.day_sheet.specs.declared.sheet.Sheet.{Sheet}
 use Rattle.day_sheet.specs.declared.sheet.Sheet.the-variants.{Version1, Version2}
 use Rattle.day_sheet.specs.declared.writer.SheetWritten.{SheetWritten}
 use Rattle.day_sheet.specs.declared.writer.SheetWritten.the-variants.{Written, Refused}
-use Rattle.day_sheet.specs.Version.{widthOf, placesOf}
+use Rattle.day_sheet.specs.Version.{placesOf}
 use Rattle.day_sheet.specs.Layout.{tableWidth, inPlaces}
 use Rattle.day_sheet.specs.FirstPlaces.{RoomFor, filledWith}
 use Rattle.day_sheet.specs.Sheet.{versionOf, sheetRow, bytesOf}

@@ -27,7 +27,7 @@ setsAllowed s = setAllowed (s .settled) && (setAllowed (s .forecast) && withinLi
 
 -- a movement has six digits
 unfoldable pub headingAllowed : Heading → Bool
-headingAllowed h = leb 1 (h .edition) && (leb (h .edition) 2 && (leb (h .movement) 999999 && (leb (h .batches) 999999 && isDay (h .date))))
+headingAllowed h = leb 1 (h .edition) && (leb (h .edition) 2 && (isDay (h .date) && (leb (h .movement) 999999 && leb (h .batches) 999999)))
 
 -- whether every number of a set is zero
 unfoldable pub noneOf : Totals → Bool

@@ -47,13 +47,13 @@ fn heading_allowed(heading: Heading) -> bool
     if 2 < heading.edition {
         return false;
     }
+    if !calendar::day::is_day(heading.date) {
+        return false;
+    }
     if LARGEST_COUNT < heading.movement {
         return false;
     }
-    if LARGEST_COUNT < heading.batches {
-        return false;
-    }
-    calendar::day::is_day(heading.date)
+    heading.batches <= LARGEST_COUNT
 }
 
 // Whether there is no sale, and nothing that one comes to.

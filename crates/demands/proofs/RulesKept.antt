@@ -1,6 +1,6 @@
 -- Demand 2, from the crates that prove its parts: what they say of answers, said of their rows.
 use Prim.Native.Nat.{ℕ}
-use mathlib.Core.Path.{_≡_, sym, ap, subst}
+use mathlib.Core.Path.{sym, ap, subst}
 use mathlib.Core.List.{List}
 use Rattle.card_run.specs.Answer.{cardFileRow}
 use Rattle.card_run.proofs.FileRows.{is-accepted}

@@ -1,6 +1,6 @@
 -- `day_sheet::allowed::heading_allowed` meets its contract: the tests that led to a return decide the tests of `headingAllowed` one by one.
 use mathlib.Core.Path.{sym, _∙_}
-use borrow.Author.Tests.{le-leb, lt-leb}
+use borrow.Author.Tests.{le-leb, lt-leb, not-true, not-false}
 use Rattle.day_sheet.specs.Allowed.{headingAllowed}
 use Rattle.day_sheet.proofs.allowed.heading_allowed.Statement.{statement}
 use Rattle.day_sheet.proofs.allowed.heading_allowed.Tie as tie
@@ -15,21 +15,34 @@ returns-2 c = rw (le-leb _ _ (c .before .before .if1 .left), lt-leb _ _ (c .if2 
 
 returns-3 : tie.Need-returns-3
 unfolding headingAllowed
-returns-3 c = rw (le-leb _ _ (c .before .before .before .before .if1 .left), le-leb _ _ (c .before .before .if2 .left), lt-leb _ _ (c .if3 .taken))
+returns-3 c =
+    let d = c .before .before in
+    rw (le-leb _ _ (d .before .before .if1 .left), le-leb _ _ (d .if2 .left), sym (c .before .is-day .ensures) ∙ not-true _ (c .if3 .taken))
 
 returns-4 : tie.Need-returns-4
 unfolding headingAllowed
 returns-4 c =
-    let d = c .before .before .before .before in
-    rw (le-leb _ _ (d .before .before .if1 .left), le-leb _ _ (d .if2 .left), le-leb _ _ (c .before .before .if3 .left), lt-leb _ _ (c .if4 .taken))
+    let h = c .before .before in
+    let d = h .before .before in
+    rw (
+      le-leb _ _ (d .before .before .if1 .left),
+      le-leb _ _ (d .if2 .left),
+      sym (h .before .is-day .ensures) ∙ not-false _ (h .if3 .left),
+      lt-leb _ _ (c .if4 .taken),
+    )
 
 returns-5 : tie.Need-returns-5
 unfolding headingAllowed
 returns-5 c =
-    let d = c .before .before .before .before .before in
-    c .is-day .ensures ∙
-    sym (rw (le-leb _ _ (d .before .before .if1 .left), le-leb _ _ (d .if2 .left), le-leb _ _ (c .before .before .before .if3 .left), le-leb _ _ (c .before .if4 .left)))
+    let h = c .before .before .before in
+    let d = h .before .before in
+    rw (
+      le-leb _ _ (d .before .before .if1 .left),
+      le-leb _ _ (d .if2 .left),
+      sym (h .before .is-day .ensures) ∙ not-false _ (h .if3 .left),
+      le-leb _ _ (c .before .if4 .left),
+    )
 
 pub heading-allowed-spec : {M : Type 1} → statement M
 heading-allowed-spec =
-    tie.close (tie.spec returns returns-2 returns-3 returns-4 (λ c κs. tt) returns-5)
+    tie.close (tie.spec returns returns-2 (λ c κs. tt) returns-3 returns-4 returns-5)

@@ -1,5 +1,4 @@
 -- `day_sheet::allowed::within_limits` meets its contract: the tests that led to a return decide the tests of `withinLimits` one by one.
-use mathlib.Core.Path.{sym, _∙_}
 use borrow.Author.Tests.{le-leb, lt-leb, lt-ltb, le-ltb}
 use Rattle.day_sheet.specs.Allowed.{withinLimits}
 use Rattle.day_sheet.proofs.allowed.within_limits.Statement.{statement}

@@ -1,5 +1,4 @@
 -- `day_sheet::row::sheet_of` meets its contract: the version picks the case of `sheetOf`.
-use mathlib.Core.Path.{sym, _∙_}
 use borrow.Author.Needs.{needs}
 use Rattle.day_sheet.proofs.row.sheet_of.Statement.{statement}
 use Rattle.day_sheet.proofs.row.sheet_of.Tie as tie

@@ -1,18 +1,14 @@
 -- `day_sheet::writer::put` meets its contract: the room decides, and the numbers of the sheet's own places are its bytes.
-use mathlib.Core.Path.{_≡_, sym, _∙_, ap}
-use Prim.Native.Nat.{_≤_, _<_}
+use mathlib.Core.Path.{_∙_, ap}
 use native.Mathlib.Omega.{arith}
 use borrow.Author.Needs.{needs}
-use lib.ListN.{length}
 use Rattle.day_sheet.specs.Version.{widthOf, placesOf}
-use Rattle.day_sheet.specs.Writing.{sheetWidth}
 use Rattle.day_sheet.proofs.Writings as laws
 use Rattle.day_sheet.proofs.writer.put.Statement.{statement}
 use Rattle.day_sheet.proofs.writer.put.Tie as tie
 
 returns : tie.Need-returns
 returns c =
-    let start = c .before .before .before .before .before in
     let w = c .before .before .width .ensures ∙ ap widthOf (c .before .before .before .version .ensures) in
     laws.no-room _ _ (c .nowhere .ensures) (omega (arith, w, c .before .if1 .taken))
 

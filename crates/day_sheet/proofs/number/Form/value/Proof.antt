@@ -1,7 +1,7 @@
 -- `day_sheet::number::Form::value` meets its contract. The invariant: the value so far is below 256^i, and with the bytes still to come it is
 -- the value of all. Eight bytes leave room for each step.
 use Prim.Native.Nat.{_-_, _^_, _≤_, _<_}
-use mathlib.Core.Path.{_≡_, refl, sym, _∙_, ap, subst}
+use mathlib.Core.Path.{_≡_, refl, sym, _∙_}
 use native.Mathlib.Omega.{arith}
 use borrow.Author.Needs.{needs}
 use lib.ListN.{length, drop}
