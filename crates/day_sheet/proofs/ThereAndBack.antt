@@ -1,5 +1,5 @@
 -- From one version to the other: what is converted is allowed, so it is readable and is what the writer would write; from version 1 to 2 and back the bytes are the same,
--- and so they are from version 2 with split 0.
+-- and from version 2 exactly where its split is 0.
 use Prim.Native.Nat.{ℕ, _+_}
 use mathlib.Core.Path.{_≡_, refl, sym, _∙_, ap}
 use mathlib.Core.List.{List}
@@ -101,6 +101,12 @@ back-again (Version2 h split sets) e z =
     let empty = sym none in
     λ i. Version2 h (back i) (setsOf (empty i) (settled i))
 
+-- what was converted twice tells no split
+untold : (s : Sheet) → readRow (Read (converted (converted s))) .split ≡ 0
+unfolding converted readRow
+untold (Version1 h t) = refl
+untold (Version2 h split sets) = refl
+
 module _ (l : List ℕ) (s : Sheet) (e : readOf l ≡ Read s) where
   -- the bytes of the other version are readable, as the sheet that they are meant to be
   pub converted-readable : readOf (convertedBytes l) ≡ Read (converted s)
@@ -119,3 +125,10 @@ module _ (l : List ℕ) (s : Sheet) (e : readOf l ≡ Read s) where
   pub same-bytes : areBytes l ≡ true → readRow (Read s) .split ≡ 0 → convertedBytes (convertedBytes l) ≡ l
   same-bytes bytes z =
       ap bytesOfRead converted-readable ∙ ap bytesOf (back-again s (read-allowed l s e) z) ∙ the-one-we-write l s e bytes
+
+  -- and to no others
+  pub same-untold : convertedBytes (convertedBytes l) ≡ l → readRow (Read s) .split ≡ 0
+  same-untold same =
+      let new = converted-allowed s (read-allowed l s e) in
+      let twice = ap (λ r. readOf (bytesOfRead r)) converted-readable ∙ reads-back (converted (converted s)) (converted-allowed (converted s) new) in
+      ap (λ r. readRow r .split) (sym e ∙ sym (ap readOf same) ∙ twice) ∙ untold s

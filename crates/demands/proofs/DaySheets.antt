@@ -12,7 +12,7 @@ use Rattle.day_sheet.specs.Reading.{readOf}
 use Rattle.day_sheet.specs.Conversion.{convertedBytes}
 use Rattle.day_sheet.specs.Answer.{readRow}
 use Rattle.day_sheet.proofs.RoundTrip as round
-use Rattle.day_sheet.proofs.ThereAndBack.{converted-allowed, converted-readable, as-written, leaves-as-written, same-bytes}
+use Rattle.day_sheet.proofs.ThereAndBack.{converted-allowed, converted-readable, as-written, leaves-as-written, same-bytes, same-untold}
 use Rattle.day_sheet.proofs.SheetRows.{was-read, same-read, split-of-one}
 use Rattle.card_sheet.proofs.Allowed.{is-plain, converted-plain, accepted-allowed}
 use Rattle.demands.specs.DaySheets.{SheetThereAndBack, SheetConverted, SheetOfFile}
@@ -34,6 +34,12 @@ by-split l bytes e z =
     let read = was-read (readOf l) e in
     same-bytes l (read .0) (read .1) bytes (sym (ap (λ r. readRow r .split) (read .1)) ∙ z)
 
+-- and only so
+came-back : (l : List ℕ) → readRow (readOf l) .refusal ≡ noRefusal → convertedBytes (convertedBytes l) ≡ l → readRow (readOf l) .split ≡ 0
+came-back l e same =
+    let read = was-read (readOf l) e in
+    ap (λ r. readRow r .split) (read .1) ∙ same-untold l (read .0) (read .1) same
+
 -- version 1 tells no split
 no-split : (l : List ℕ) → readRow (readOf l) .refusal ≡ noRefusal → readRow (readOf l) .version ≡ 1 → readRow (readOf l) .split ≡ 0
 no-split l e v =
@@ -49,7 +55,7 @@ sheet-converted =
           record { answers = c .answers ∙ as-written l s read (length out); leaves = c .leaves ∙ leaves-as-written l s read out };
       allowed = λ l s e. converted-allowed s (round.read-allowed l s (same-read (readOf l) s e));
       from-one-and-back = λ l bytes e v. by-split l bytes e (no-split l e v);
-      from-two-and-back = λ l bytes e v z. by-split l bytes e z;
+      from-two-and-back = λ l bytes e v. (came-back l e, by-split l bytes e);
     }
 
 pub sheet-of-file : SheetOfFile

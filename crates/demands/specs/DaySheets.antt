@@ -1,6 +1,7 @@
 -- DEMAND 2 FOR DAY SHEETS: there and back in both versions, from one version to the other, and the sheet of a card file.
 use Prim.Native.Nat.{ℕ}
 use mathlib.Core.Path.{_≡_}
+use mathlib.Core.Logic.{_↔_}
 use mathlib.Core.List.{List}
 use mathlib.Core.Bool.{true}
 use lib.Pow.{areBytes}
@@ -41,9 +42,9 @@ pub record SheetConverted : Type 0 where
   -- "From 1 to 2 and back gives the same bytes"
   pub from-one-and-back : (l : List ℕ) → areBytes l ≡ true → readRow (readOf l) .refusal ≡ noRefusal → readRow (readOf l) .version ≡ 1 →
       convertedBytes (convertedBytes l) ≡ l
-  -- and so does 2 to 1 and back, where the split is not known
+  -- and 2 to 1 and back exactly where the split is not known
   pub from-two-and-back : (l : List ℕ) → areBytes l ≡ true → readRow (readOf l) .refusal ≡ noRefusal → readRow (readOf l) .version ≡ 2 →
-      readRow (readOf l) .split ≡ 0 → convertedBytes (convertedBytes l) ≡ l
+      (convertedBytes (convertedBytes l) ≡ l) ↔ (readRow (readOf l) .split ≡ 0)
 
 -- the sheet of an accepted file
 pub record SheetOfFile : Type 0 where
