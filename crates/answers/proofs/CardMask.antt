@@ -35,7 +35,7 @@ use Rattle.sale_field.specs.Field.{refusalOf, partAs, placeAs}
 use Rattle.day_sheet.specs.Number.{inBase}
 use Rattle.day_sheet.specs.Layout.{inPlaces}
 use Rattle.day_sheet.specs.Sheet.{sheetRow, bytesOf}
-use Rattle.day_sheet.specs.Conversion.{converted}
+use Rattle.sheet_numbers.specs.Converted.{converted}
 use Rattle.card_sheet.specs.SheetOf.{sheetInto}
 use Rattle.answers.proofs.Observed.{answerRead, fieldRead}
 use base.Fml.{Lft}

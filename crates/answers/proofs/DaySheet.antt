@@ -10,10 +10,11 @@ use Rattle.edition.specs.Known.{known}
 use Rattle.day_sheet.specs.Number.{inBase, valueIn}
 use Rattle.day_sheet.specs.Layout.{inPlaces, fromPlaces, digitsRight}
 use Rattle.day_sheet.specs.Sheet.{sheetRow, bytesOf}
-use Rattle.day_sheet.specs.Allowed.{withinLimits, setAllowed, setsAllowed, headingAllowed, noneOf, splitAllowed, sheetAllowed}
+use Rattle.sheet_numbers.specs.Allowed.{withinLimits, setAllowed, setsAllowed, headingAllowed, noneOf, splitAllowed, sheetAllowed}
 use Rattle.day_sheet.specs.Reading.{readAs, readOf}
 use Rattle.day_sheet.specs.Writing.{putAnswer, putResult, writeAnswer, writeResult}
-use Rattle.day_sheet.specs.Conversion.{converted, convertAnswer, convertResult}
+use Rattle.sheet_numbers.specs.Converted.{converted}
+use Rattle.day_sheet.specs.Conversion.{convertAnswer, convertResult}
 use Rattle.answers.proofs.Observed.{versionRead, sheetRead, settledRead, sheetWritten, editionRead}
 use base.Fml.{Lft}
 use Rattle.answers.specs.DaySheet.{DaySheet}

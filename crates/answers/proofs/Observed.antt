@@ -67,7 +67,7 @@ use Rattle.payroll_stream.specs.declared.Progress.{Progress}
 use Rattle.payroll_stream.specs.declared.Progress.the-variants.{GoingOn as goingOn, Answered}
 use Rattle.day_sheet.specs.declared.layout.Version.{Version}
 use Rattle.day_sheet.specs.declared.layout.Version.the-variants.{One, Two}
-use Rattle.day_sheet.specs.declared.sheet.Sheet.the-variants.{Version1, Version2}
+use Rattle.sheet_numbers.specs.declared.sheet.Sheet.the-variants.{Version1, Version2}
 use Rattle.day_sheet.specs.declared.reader.SheetRead.{SheetRead}
 use Rattle.day_sheet.specs.declared.reader.SheetRead.the-variants.{Read, Refused as unread}
 use Rattle.day_sheet.specs.declared.writer.SheetWritten.{SheetWritten}

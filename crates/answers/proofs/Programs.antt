@@ -45,17 +45,17 @@ use Rattle.payroll_stream.specs.Stream.{soFar, answerAt as payrollAnswerAt}
 use Rattle.payroll_kept.specs.Numbers.{Numbers}
 use Rattle.payroll_kept.proofs.KeptMeansKept as payroll
 use Rattle.day_sheet.specs.Number.{inBase, valueIn}
-use Rattle.day_sheet.specs.declared.sheet.Sheet.{Sheet}
-use Rattle.day_sheet.specs.declared.sheet.Sheet.the-variants.{Version1, Version2}
+use Rattle.sheet_numbers.specs.declared.sheet.Sheet.{Sheet}
+use Rattle.sheet_numbers.specs.declared.sheet.Sheet.the-variants.{Version1, Version2}
 use Rattle.day_sheet.specs.declared.reader.SheetRead.{SheetRead}
 use Rattle.day_sheet.specs.declared.reader.SheetRead.the-variants.{Read, Refused as unread}
 use Rattle.day_sheet.specs.Layout.{inPlaces, fromPlaces, digitsRight}
 use Rattle.day_sheet.specs.Sheet.{sheetRow, bytesOf}
-use Rattle.day_sheet.specs.Allowed.{withinLimits, setAllowed, setsAllowed, headingAllowed, noneOf, splitAllowed, sheetAllowed}
+use Rattle.sheet_numbers.specs.Allowed.{withinLimits, setAllowed, setsAllowed, headingAllowed, noneOf, splitAllowed, sheetAllowed}
 use Rattle.day_sheet.specs.Reading.{readAs as sheetAs, readOf}
-use Rattle.day_sheet.specs.Conversion.{converted}
+use Rattle.sheet_numbers.specs.Converted.{converted}
 use Rattle.day_sheet.proofs.RoundTrip.{read-allowed}
-use Rattle.day_sheet.proofs.ThereAndBack.{converted-allowed}
+use Rattle.sheet_numbers.proofs.Conversions.{converted-allowed}
 use Rattle.sheet_program.specs.SheetRead.{convertedRead}
 use Rattle.card_kept.proofs.FirstFault.{edition-first}
 use Rattle.wording.specs.Number.{digitsWithin}

@@ -62,9 +62,9 @@ use Rattle.payroll_run.specs.State.{opened, moved}
 use Rattle.day_sheet.specs.Number.{inBase, valueIn}
 use Rattle.day_sheet.specs.Layout.{inPlaces, fromPlaces, digitsRight}
 use Rattle.day_sheet.specs.Sheet.{sheetRow, bytesOf}
-use Rattle.day_sheet.specs.Allowed.{withinLimits, setAllowed, setsAllowed, headingAllowed, noneOf, splitAllowed, sheetAllowed}
+use Rattle.sheet_numbers.specs.Allowed.{withinLimits, setAllowed, setsAllowed, headingAllowed, noneOf, splitAllowed, sheetAllowed}
 use Rattle.day_sheet.specs.Reading.{readAs as sheetAs, readOf}
-use Rattle.day_sheet.specs.Conversion.{converted}
+use Rattle.sheet_numbers.specs.Converted.{converted}
 use Rattle.day_sheet.specs.Answer.{readRow}
 use Rattle.demands.specs.Demands.{Demands}
 use Rattle.demands.specs.Examples.{asWritten, allAsWritten}

@@ -7,10 +7,10 @@ use Rattle.text.specs.Literal.{ascii}
 use Rattle.refusal.specs.declared.Cause.the-variants.{EditionUnknown, OutputTooShort, SequenceWrong, KindUnknown, WrongWidth, FieldNotOffered}
 use Rattle.card_run.specs.declared.answer.CardAnswer.the-variants.{Refused}
 use Rattle.sale_field.specs.declared.FieldAnswer.the-variants.{Offered, Refused as notOffered}
-use Rattle.day_sheet.specs.declared.sheet.Sheet.{Sheet}
-use Rattle.day_sheet.specs.declared.sheet.Sheet.the-variants.{Version2}
+use Rattle.sheet_numbers.specs.declared.sheet.Sheet.{Sheet}
+use Rattle.sheet_numbers.specs.declared.sheet.Sheet.the-variants.{Version2}
 use Rattle.day_sheet.specs.Sheet.{bytesOf}
-use Rattle.day_sheet.specs.Conversion.{converted}
+use Rattle.sheet_numbers.specs.Converted.{converted}
 use Rattle.totals.specs.declared.two_sets.TwoSets.{TwoSets}
 use Rattle.totals.specs.Amounts.{noTotals}
 use Rattle.totals.specs.TwoSets.{setsOf}

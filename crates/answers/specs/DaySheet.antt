@@ -12,9 +12,9 @@ use Rattle.totals.specs.Amounts.{noTotals}
 use Rattle.totals.specs.TwoSets.{setsOf}
 use Rattle.day_sheet.specs.declared.number.Form.the-variants.{Bytes, Digits}
 use Rattle.day_sheet.specs.declared.layout.Version.the-variants.{One, Two}
-use Rattle.day_sheet.specs.declared.sheet.Heading.{Heading}
-use Rattle.day_sheet.specs.declared.sheet.Sheet.{Sheet}
-use Rattle.day_sheet.specs.declared.sheet.Sheet.the-variants.{Version1, Version2}
+use Rattle.sheet_numbers.specs.declared.sheet.Heading.{Heading}
+use Rattle.sheet_numbers.specs.declared.sheet.Sheet.{Sheet}
+use Rattle.sheet_numbers.specs.declared.sheet.Sheet.the-variants.{Version1, Version2}
 use Rattle.day_sheet.specs.declared.reader.SheetRead.the-variants.{Read, Refused}
 use Rattle.day_sheet.specs.declared.writer.SheetWritten.{SheetWritten}
 use Rattle.day_sheet.specs.declared.writer.SheetWritten.the-variants.{Written, Refused as notWritten}
@@ -26,9 +26,9 @@ use Rattle.answers.specs.Samples.{at, room}
 use base.Fml.{Lft}
 use Rattle.day_sheet.proofs.number.Form.put.Reads as Put
 use Rattle.day_sheet.proofs.layout.Version.width.Reads as Width
-use Rattle.day_sheet.proofs.sheet.Sheet.version.Reads as VersionOf
-use Rattle.day_sheet.proofs.sheet.Sheet.converted.Reads as Converted
-use Rattle.day_sheet.proofs.sheet.Sheet.is_allowed.Reads as IsAllowed
+use Rattle.day_sheet.proofs.layout.version_of.Reads as VersionOf
+use Rattle.sheet_numbers.proofs.sheet.Sheet.converted.Reads as Converted
+use Rattle.sheet_numbers.proofs.sheet.Sheet.is_allowed.Reads as IsAllowed
 use Rattle.day_sheet.proofs.reader.read.Reads as ReadSheet
 use Rattle.day_sheet.proofs.writer.write.Reads as WriteSheet
 use Rattle.day_sheet.proofs.converter.convert.Reads as ConvertSheet

@@ -16,7 +16,7 @@ use Rattle.payroll_file.specs.declared.answer.PayrollAnswer.{PayrollAnswer}
 use Rattle.payroll_file.specs.declared.answer.PayrollAnswer.the-variants.{Accepted as accepted-payroll, Refused as refused-payroll}
 use Rattle.payroll_stream.specs.declared.Progress.the-variants.{GoingOn as goingOn, Answered}
 use Rattle.day_sheet.specs.declared.reader.SheetRead.the-variants.{Read}
-use Rattle.day_sheet.specs.Conversion.{converted}
+use Rattle.sheet_numbers.specs.Converted.{converted}
 use Rattle.demands.specs.ExampleFile.{fileOf}
 use Rattle.card_file.specs.CardFile.{checkOf}
 use Rattle.card_stream.specs.Stream.{openOf}

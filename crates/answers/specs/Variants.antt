@@ -30,12 +30,13 @@ use Rattle.payroll_file.specs.PayrollFile.{checkOf as payrollCheckOf}
 use Rattle.payroll_kept.specs.FirstFault as payroll-record
 use Rattle.payroll_kept.specs.FirstFaultOfFile as payroll-file
 use Rattle.payroll_kept.specs.Kept as payroll
-use Rattle.day_sheet.specs.declared.sheet.Sheet.{Sheet}
+use Rattle.sheet_numbers.specs.declared.sheet.Sheet.{Sheet}
 use Rattle.day_sheet.specs.declared.reader.SheetRead.the-variants.{Read}
 use Rattle.day_sheet.specs.Sheet.{bytesOf}
-use Rattle.day_sheet.specs.Allowed.{sheetAllowed}
+use Rattle.sheet_numbers.specs.Allowed.{sheetAllowed}
 use Rattle.day_sheet.specs.Reading.{readOf}
-use Rattle.day_sheet.specs.Conversion.{converted, convertedBytes}
+use Rattle.sheet_numbers.specs.Converted.{converted}
+use Rattle.day_sheet.specs.Conversion.{convertedBytes}
 use Rattle.day_sheet.specs.Answer.{readRow}
 use Rattle.demands.specs.Demands.{Demands}
 use Rattle.demands.specs.Examples.{agrees, allAsWritten}

@@ -24,10 +24,10 @@ use Rattle.card_kept.specs.Kept.{Transaction, isSale, isForecast, isSettled, Ke
 use Rattle.card_kept.specs.Numbers.{TotalsOf, Numbers as Plain}
 use Rattle.card_kept.proofs.FieldsKept.{part-length}
 use Rattle.card_kept.proofs.KeptMeansKept.{kept-means-kept, plain-numbers}
-use Rattle.day_sheet.specs.declared.sheet.Heading.{Heading}
-use Rattle.day_sheet.specs.declared.sheet.Sheet.the-variants.{Version1, Version2}
-use Rattle.day_sheet.specs.Allowed.{withinLimits, setAllowed, setsAllowed, headingAllowed, splitAllowed, sheetAllowed}
-use Rattle.day_sheet.specs.Conversion.{converted}
+use Rattle.sheet_numbers.specs.declared.sheet.Heading.{Heading}
+use Rattle.sheet_numbers.specs.declared.sheet.Sheet.the-variants.{Version1, Version2}
+use Rattle.sheet_numbers.specs.Allowed.{withinLimits, setAllowed, setsAllowed, headingAllowed, splitAllowed, sheetAllowed}
+use Rattle.sheet_numbers.specs.Converted.{converted}
 use Rattle.card_sheet.specs.SheetOf.{sheetFrom}
 use Rattle.card_sheet.specs.PlainSheet.{plainHeading, plainSheet, plainSheet1}
 use Rattle.card_sheet.proofs.Counts.{batches-below, picked-counted}

@@ -9,7 +9,7 @@ use Rattle.card_run.specs.declared.answer.Accepted.{Accepted as Numbers}
 use Rattle.card_run.specs.declared.answer.CardAnswer.{CardAnswer}
 use Rattle.card_run.specs.declared.answer.CardAnswer.the-variants.{GoingOn, Accepted, Refused}
 use Rattle.card_file.proofs.Rooms.{has-room, was-checked}
-use Rattle.day_sheet.specs.declared.sheet.Sheet.{Sheet}
+use Rattle.sheet_numbers.specs.declared.sheet.Sheet.{Sheet}
 use Rattle.day_sheet.specs.Writing.{putResult, writeResult}
 use Rattle.card_sheet.specs.SheetOf.{sheetFrom, sheetAnswer, sheetInto, SheetOf}
 use Rattle.card_sheet.proofs.Allowed.{accepted-allowed}

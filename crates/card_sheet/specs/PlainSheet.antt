@@ -5,9 +5,9 @@ use Rattle.totals.specs.TwoSets.{setsOf}
 use Rattle.card_kept.specs.Fields.{numberAt}
 use Rattle.card_kept.specs.Kept.{File, salesOf, forecastsOf, settledOf}
 use Rattle.card_kept.specs.Numbers.{plainTotals}
-use Rattle.day_sheet.specs.declared.sheet.Heading.{Heading}
-use Rattle.day_sheet.specs.declared.sheet.Sheet.{Sheet}
-use Rattle.day_sheet.specs.declared.sheet.Sheet.the-variants.{Version1, Version2}
+use Rattle.sheet_numbers.specs.declared.sheet.Heading.{Heading}
+use Rattle.sheet_numbers.specs.declared.sheet.Sheet.{Sheet}
+use Rattle.sheet_numbers.specs.declared.sheet.Sheet.the-variants.{Version1, Version2}
 
 -- "A0 date, movement, .. batches", "and the edition"
 abbrev pub plainHeading : ℕ → File → Heading

@@ -7,8 +7,8 @@ use Rattle.card_run.specs.declared.answer.Accepted.{Accepted as Numbers}
 use Rattle.card_run.specs.declared.answer.CardAnswer.{CardAnswer}
 use Rattle.card_run.specs.declared.answer.CardAnswer.the-variants.{GoingOn, Accepted, Refused}
 use Rattle.card_file.specs.Room.{answerWithRoom}
-use Rattle.day_sheet.specs.declared.sheet.Sheet.{Sheet}
-use Rattle.day_sheet.specs.declared.sheet.Sheet.the-variants.{Version2}
+use Rattle.sheet_numbers.specs.declared.sheet.Sheet.{Sheet}
+use Rattle.sheet_numbers.specs.declared.sheet.Sheet.the-variants.{Version2}
 use Rattle.day_sheet.specs.Sheet.{bytesOf}
 
 -- "Its day sheet carries these but records, and the edition"; it is version 2, and the split is known

@@ -4,8 +4,8 @@ ghost use Rattle.card_sheet.specs.SheetOf.{sheetFrom, SheetOf};
 use card_run::answer::Accepted;
 use card_run::answer::CardAnswer;
 use day_sheet::layout::WIDTH_2;
-use day_sheet::sheet::Heading;
-use day_sheet::sheet::Sheet;
+use sheet_numbers::sheet::Heading;
+use sheet_numbers::sheet::Sheet;
 
 // The split of a file's sales is known.
 const KNOWN: u64 = 1;

@@ -3,14 +3,15 @@ use Prim.Native.Nat.{ℕ}
 use mathlib.Core.Path.{_≡_, sym, _∙_}
 use mathlib.Core.List.{List}
 use Rattle.refusal.specs.declared.Refusal.{Refusal}
-use Rattle.day_sheet.specs.declared.sheet.Sheet.{Sheet}
+use Rattle.sheet_numbers.specs.declared.sheet.Sheet.{Sheet}
 use Rattle.day_sheet.specs.declared.reader.SheetRead.{SheetRead}
 use Rattle.day_sheet.specs.declared.reader.SheetRead.the-variants.{Read, Refused}
 use Rattle.day_sheet.specs.declared.writer.SheetWritten.{SheetWritten}
 use Rattle.day_sheet.specs.declared.writer.SheetWritten.the-variants.{Refused as notWritten}
 use Rattle.day_sheet.specs.Reading.{readOf}
 use Rattle.day_sheet.specs.Writing.{PutInto}
-use Rattle.day_sheet.specs.Conversion.{converted, convertAnswer, convertResult, Converts}
+use Rattle.sheet_numbers.specs.Converted.{converted}
+use Rattle.day_sheet.specs.Conversion.{convertAnswer, convertResult, Converts}
 
 module _ (l out : List ℕ) {read : SheetRead} (answered : read ≡ readOf l) where
   pub unreadable : {r : Refusal} → read ≡ Refused r → Converts l out (notWritten r) out

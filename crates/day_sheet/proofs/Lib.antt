@@ -2,7 +2,6 @@ pub mod Digits
 pub mod Values
 pub mod Filling
 pub mod NextPlace
-pub mod Allowances
 pub mod Readings
 pub mod Writings
 pub mod Conversions

@@ -14,13 +14,13 @@ use Rattle.refusal.specs.Nowhere.{nowhere}
 use Rattle.day_sheet.specs.declared.layout.Place.{Place}
 use Rattle.day_sheet.specs.declared.layout.Version.{Version}
 use Rattle.day_sheet.specs.declared.layout.Version.the-variants.{One, Two}
-use Rattle.day_sheet.specs.declared.sheet.Sheet.{Sheet}
+use Rattle.sheet_numbers.specs.declared.sheet.Sheet.{Sheet}
 use Rattle.day_sheet.specs.declared.reader.SheetRead.the-variants.{Read, Refused}
 use Rattle.day_sheet.specs.Version.{numberOf, widthOf, placesOf}
 use Rattle.day_sheet.specs.Layout.{tableOf, tableWidth, fromPlaces, digitsRight}
 use Rattle.day_sheet.specs.FirstPlaces.{firstPlaces, RoomFor}
 use Rattle.day_sheet.specs.Sheet.{sheetOf}
-use Rattle.day_sheet.specs.Allowed.{sheetAllowed}
+use Rattle.sheet_numbers.specs.Allowed.{sheetAllowed}
 use Rattle.day_sheet.specs.Reading.{isMarked, numbersIn, sheetIn, readAs, readOf}
 
 -- a version's table is the first places of the longer one, and its bytes have room for them

@@ -18,18 +18,18 @@ use Rattle.calendar.proofs.Days.{day-range}
 use Rattle.day_sheet.specs.declared.layout.Place.{Place}
 use Rattle.day_sheet.specs.declared.layout.Version.{Version}
 use Rattle.day_sheet.specs.declared.layout.Version.the-variants.{One, Two}
-use Rattle.day_sheet.specs.declared.sheet.Heading.{Heading}
-use Rattle.day_sheet.specs.declared.sheet.Sheet.{Sheet}
-use Rattle.day_sheet.specs.declared.sheet.Sheet.the-variants.{Version1, Version2}
+use Rattle.sheet_numbers.specs.declared.sheet.Heading.{Heading}
+use Rattle.sheet_numbers.specs.declared.sheet.Sheet.{Sheet}
+use Rattle.sheet_numbers.specs.declared.sheet.Sheet.the-variants.{Version1, Version2}
 use Rattle.day_sheet.specs.declared.reader.SheetRead.the-variants.{Read, Refused}
 use Rattle.day_sheet.specs.Number.{inBase}
 use Rattle.day_sheet.specs.Version.{numberOf, widthOf}
 use Rattle.day_sheet.specs.Layout.{version1, version2, tableOf, tableWidth, inPlaces, fromPlaces, digitsRight}
 use Rattle.day_sheet.specs.Sheet.{versionOf, sheetRow, bytesOf, sheetOf}
-use Rattle.day_sheet.specs.Allowed.{headingAllowed, setAllowed, setsAllowed, splitAllowed, sheetAllowed}
+use Rattle.sheet_numbers.specs.Allowed.{headingAllowed, setAllowed, setsAllowed, splitAllowed, sheetAllowed}
 use Rattle.day_sheet.specs.Reading.{isMarked, versionFor, numbersIn, sheetIn, numbersRight, readAs, readOf}
 use Rattle.day_sheet.specs.Writing.{sheetWidth}
-use Rattle.day_sheet.proofs.Allowances.{Within, set-within, HeadingWithin, heading-within, sets-within, split-below}
+use Rattle.sheet_numbers.proofs.Allowances.{Within, set-within, HeadingWithin, heading-within, sets-within, split-below}
 use Rattle.day_sheet.proofs.Readings.{allowed}
 use Rattle.day_sheet.proofs.Tables.{Fit, read-back, all-digits, drop-bytes, written-back}
 

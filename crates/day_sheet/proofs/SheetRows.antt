@@ -4,8 +4,8 @@ use native.Mathlib.Omega.{arith}
 use Rattle.refusal.specs.Row.{noRefusal}
 use Rattle.refusal.proofs.RefusalRows.{not-none}
 use Rattle.totals.specs.TwoSets.{setsOf}
-use Rattle.day_sheet.specs.declared.sheet.Sheet.{Sheet}
-use Rattle.day_sheet.specs.declared.sheet.Sheet.the-variants.{Version1, Version2}
+use Rattle.sheet_numbers.specs.declared.sheet.Sheet.{Sheet}
+use Rattle.sheet_numbers.specs.declared.sheet.Sheet.the-variants.{Version1, Version2}
 use Rattle.day_sheet.specs.declared.reader.SheetRead.{SheetRead}
 use Rattle.day_sheet.specs.declared.reader.SheetRead.the-variants.{Read, Refused}
 use Rattle.day_sheet.specs.Answer.{readRow}

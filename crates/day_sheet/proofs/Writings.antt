@@ -9,15 +9,15 @@ use lib.Dec.{lit≤}
 use Rattle.refusal.specs.declared.Cause.the-variants.{OutputTooShort, SheetNumbersNotAllowed}
 use Rattle.refusal.specs.declared.Refusal.{Refusal}
 use Rattle.refusal.specs.Nowhere.{nowhere}
-use Rattle.day_sheet.specs.declared.sheet.Sheet.{Sheet}
-use Rattle.day_sheet.specs.declared.sheet.Sheet.the-variants.{Version1, Version2}
+use Rattle.sheet_numbers.specs.declared.sheet.Sheet.{Sheet}
+use Rattle.sheet_numbers.specs.declared.sheet.Sheet.the-variants.{Version1, Version2}
 use Rattle.day_sheet.specs.declared.writer.SheetWritten.{SheetWritten}
 use Rattle.day_sheet.specs.declared.writer.SheetWritten.the-variants.{Written, Refused}
 use Rattle.day_sheet.specs.Version.{placesOf}
 use Rattle.day_sheet.specs.Layout.{tableWidth, inPlaces}
 use Rattle.day_sheet.specs.FirstPlaces.{RoomFor, filledWith}
 use Rattle.day_sheet.specs.Sheet.{versionOf, sheetRow, bytesOf}
-use Rattle.day_sheet.specs.Allowed.{sheetAllowed}
+use Rattle.sheet_numbers.specs.Allowed.{sheetAllowed}
 use Rattle.day_sheet.specs.Writing.{sheetWidth, putAnswer, putResult, PutInto, writeAnswer, writeResult, Writes}
 
 -- the numbers of a sheet's row that its own table has places for

@@ -3,10 +3,7 @@ use Prim.Native.Nat.{ℕ}
 use mathlib.Core.Path.{_≡_}
 use mathlib.Core.List.{List, []}
 use lib.ListN.{length}
-use Rattle.totals.specs.Amounts.{noTotals}
-use Rattle.totals.specs.TwoSets.{setsOf, bothSets}
-use Rattle.day_sheet.specs.declared.sheet.Sheet.{Sheet}
-use Rattle.day_sheet.specs.declared.sheet.Sheet.the-variants.{Version1, Version2}
+use Rattle.sheet_numbers.specs.Converted.{converted}
 use Rattle.day_sheet.specs.declared.reader.SheetRead.{SheetRead}
 use Rattle.day_sheet.specs.declared.reader.SheetRead.the-variants.{Read, Refused}
 use Rattle.day_sheet.specs.declared.writer.SheetWritten.{SheetWritten}
@@ -14,11 +11,6 @@ use Rattle.day_sheet.specs.declared.writer.SheetWritten.the-variants.{Re
 use Rattle.day_sheet.specs.Sheet.{bytesOf}
 use Rattle.day_sheet.specs.Reading.{readOf}
 use Rattle.day_sheet.specs.Writing.{putAnswer, putResult}
-
--- "A version 1 sheet becomes version 2 with split 0, all in the settled places and forecast zero. A version 2 sheet becomes version 1 by adding both."
-unfoldable pub converted : Sheet → Sheet
-converted (Version1 heading totals) = Version2 heading 0 (setsOf noTotals totals)
-converted (Version2 heading split sets) = Version1 heading (bothSets sets)
 
 -- the refusals of reading, then 2
 unfoldable pub convertAnswer : SheetRead → ℕ → SheetWritten

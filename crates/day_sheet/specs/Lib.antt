@@ -3,7 +3,6 @@ pub mod Version
 pub mod Layout
 pub mod FirstPlaces
 pub mod Sheet
-pub mod Allowed
 pub mod Reading
 pub mod Writing
 pub mod Conversion

@@ -9,13 +9,13 @@ use Rattle.refusal.specs.Nowhere.{nowhere}
 use Rattle.text.specs.Literal.{ascii, sameBytes}
 use Rattle.day_sheet.specs.declared.layout.Version.{Version}
 use Rattle.day_sheet.specs.declared.layout.Version.the-variants.{One, Two}
-use Rattle.day_sheet.specs.declared.sheet.Sheet.{Sheet}
+use Rattle.sheet_numbers.specs.declared.sheet.Sheet.{Sheet}
 use Rattle.day_sheet.specs.declared.reader.SheetRead.{SheetRead}
 use Rattle.day_sheet.specs.declared.reader.SheetRead.the-variants.{Read, Refused}
 use Rattle.day_sheet.specs.Version.{numberOf, widthOf}
 use Rattle.day_sheet.specs.Layout.{tableOf, fromPlaces, digitsRight}
 use Rattle.day_sheet.specs.Sheet.{sheetOf}
-use Rattle.day_sheet.specs.Allowed.{sheetAllowed}
+use Rattle.sheet_numbers.specs.Allowed.{sheetAllowed}
 
 -- as many bytes as a version has, with the mark
 abbrev pub isMarked : List ℕ → Bool

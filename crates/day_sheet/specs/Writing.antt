@@ -7,12 +7,12 @@ use lib.ListN.{length, drop}
 use lib.Dec.{leb}
 use Rattle.refusal.specs.declared.Cause.the-variants.{OutputTooShort, SheetNumbersNotAllowed}
 use Rattle.refusal.specs.Nowhere.{nowhere}
-use Rattle.day_sheet.specs.declared.sheet.Sheet.{Sheet}
+use Rattle.sheet_numbers.specs.declared.sheet.Sheet.{Sheet}
 use Rattle.day_sheet.specs.declared.writer.SheetWritten.{SheetWritten}
 use Rattle.day_sheet.specs.declared.writer.SheetWritten.the-variants.{Written, Refused}
 use Rattle.day_sheet.specs.Version.{widthOf}
 use Rattle.day_sheet.specs.Sheet.{versionOf, bytesOf}
-use Rattle.day_sheet.specs.Allowed.{sheetAllowed}
+use Rattle.sheet_numbers.specs.Allowed.{sheetAllowed}
 
 -- how many bytes a sheet has
 abbrev pub sheetWidth : Sheet → ℕ

@@ -3,8 +3,10 @@ ghost use mathlib.Core.Path.{_≡_};
 ghost use Prim.Native.Nat.{_<_};
 ghost use lib.ListN.{getD};
 ghost use Rattle.day_sheet.specs.Layout.{bytes, version2};
+ghost use Rattle.day_sheet.specs.Sheet.{versionOf};
 ghost use Rattle.day_sheet.specs.Version.{numberOf, widthOf, placesOf};
 use crate::number::Form;
+use sheet_numbers::sheet::Sheet;
 
 // How many bytes a sheet of each version has.
 pub const WIDTH_1: usize = 52;
@@ -95,5 +97,22 @@ pub(crate) fn place_of(number: usize) -> Place
             width,
             form: Form::Bytes,
         },
+    }
+}
+
+// The version of a sheet.
+pub fn version_of(sheet: Sheet) -> Version
+    ensures { λ r. ⌜ r ≡ versionOf sheet ⌝ }
+{
+    match sheet {
+        Sheet::Version1 {
+            heading: _,
+            totals: _,
+        } => Version::One,
+        Sheet::Version2 {
+            heading: _,
+            split: _,
+            sets: _,
+        } => Version::Two,
     }
 }

@@ -11,9 +11,9 @@ use crate::layout::PLACES;
 use crate::layout::Version;
 use crate::places;
 use crate::row;
-use crate::sheet::Sheet;
 use refusal::Cause;
 use refusal::Refusal;
+use sheet_numbers::sheet::Sheet;
 
 pub enum SheetRead {
     Read(Sheet),

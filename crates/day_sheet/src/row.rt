@@ -5,8 +5,8 @@ ghost use Rattle.day_sheet.specs.Sheet.{rowOf, sheetRow, totalsFrom, she
 use crate::layout;
 use crate::layout::PLACES;
 use crate::layout::Version;
-use crate::sheet::Heading;
-use crate::sheet::Sheet;
+use sheet_numbers::sheet::Heading;
+use sheet_numbers::sheet::Sheet;
 use totals::amounts::Amounts;
 use totals::amounts::Totals;
 use totals::two_sets::TwoSets;
@@ -41,22 +41,20 @@ fn row_of(
     ]
 }
 
-impl Sheet {
-    // The sheet's row: its numbers in the order of the layout, with zeros where version 1 has none.
-    pub(crate) fn row(self) -> [u64; PLACES]
-        ensures { λ r. ⌜ r ≡ sheetRow self ⌝ }
-    {
-        match self {
-            Sheet::Version1 { heading, totals } => row_of(1, heading, totals, 0, Totals::none()),
-            Sheet::Version2 {
-                heading,
-                split,
-                sets,
-            } => {
-                let settled = sets.settled;
-                let forecast = sets.forecast;
-                row_of(2, heading, settled, split, forecast)
-            }
+// A sheet's row: its numbers in the order of the layout, with zeros where version 1 has none.
+pub(crate) fn row(sheet: Sheet) -> [u64; PLACES]
+    ensures { λ r. ⌜ r ≡ sheetRow sheet ⌝ }
+{
+    match sheet {
+        Sheet::Version1 { heading, totals } => row_of(1, heading, totals, 0, Totals::none()),
+        Sheet::Version2 {
+            heading,
+            split,
+            sets,
+        } => {
+            let settled = sets.settled;
+            let forecast = sets.forecast;
+            row_of(2, heading, settled, split, forecast)
         }
     }
 }

@@ -1,9 +1,11 @@
 // Writing a day sheet.
 ghost use Rattle.day_sheet.specs.Writing.{PutInto, Writes};
+use crate::layout;
 use crate::places;
-use crate::sheet::Sheet;
+use crate::row;
 use refusal::Cause;
 use refusal::Refusal;
+use sheet_numbers::sheet::Sheet;
 
 pub enum SheetWritten {
     Written,
@@ -14,12 +16,12 @@ pub enum SheetWritten {
 pub(crate) fn put(sheet: Sheet, out: &mut [u8]) -> SheetWritten
     ensures { λ r. ⌜ PutInto sheet (now (out .entry)) r (now (out .exit)) ⌝ }
 {
-    let version = sheet.version();
+    let version = layout::version_of(sheet);
     let width = version.width();
     if out.len() < width {
         return SheetWritten::Refused(Refusal::nowhere(Cause::OutputTooShort));
     }
-    let row = sheet.row();
+    let row = row::row(sheet);
     let count = version.places();
     places::fill(&row[..count], out);
     SheetWritten::Written

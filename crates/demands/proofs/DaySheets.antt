@@ -12,7 +12,8 @@ use Rattle.day_sheet.specs.Reading.{readOf}
 use Rattle.day_sheet.specs.Conversion.{convertedBytes}
 use Rattle.day_sheet.specs.Answer.{readRow}
 use Rattle.day_sheet.proofs.RoundTrip as round
-use Rattle.day_sheet.proofs.ThereAndBack.{converted-allowed, converted-readable, as-written, leaves-as-written, same-bytes, same-untold}
+use Rattle.day_sheet.proofs.ThereAndBack.{converted-readable, as-written, leaves-as-written, same-bytes, same-untold}
+use Rattle.sheet_numbers.proofs.Conversions.{converted-allowed}
 use Rattle.day_sheet.proofs.SheetRows.{was-read, same-read, split-of-one}
 use Rattle.card_sheet.proofs.Allowed.{is-plain, converted-plain, accepted-allowed}
 use Rattle.demands.specs.DaySheets.{SheetThereAndBack, SheetConverted, SheetOfFile}

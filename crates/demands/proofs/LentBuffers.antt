@@ -14,15 +14,16 @@ use Rattle.card_run.specs.Running.{noNumbers}
 use Rattle.card_run.specs.Answer.{cardFileRow}
 use Rattle.card_mask.specs.Mask.{maskedInto}
 use Rattle.card_sheet.specs.SheetOf.{sheetInto}
-use Rattle.day_sheet.specs.declared.sheet.Sheet.{Sheet}
+use Rattle.sheet_numbers.specs.declared.sheet.Sheet.{Sheet}
 use Rattle.day_sheet.specs.declared.writer.SheetWritten.{SheetWritten}
 use Rattle.day_sheet.specs.declared.writer.SheetWritten.the-variants.{Written, Refused as notWritten}
 use Rattle.day_sheet.specs.declared.reader.SheetRead.{SheetRead}
 use Rattle.day_sheet.specs.declared.reader.SheetRead.the-variants.{Read, Refused as unreadable}
-use Rattle.day_sheet.specs.Allowed.{sheetAllowed}
+use Rattle.sheet_numbers.specs.Allowed.{sheetAllowed}
 use Rattle.day_sheet.specs.Reading.{readOf}
 use Rattle.day_sheet.specs.Writing.{sheetWidth, putAnswer, putResult, writeAnswer, writeResult}
-use Rattle.day_sheet.specs.Conversion.{converted, convertAnswer, convertResult}
+use Rattle.sheet_numbers.specs.Converted.{converted}
+use Rattle.day_sheet.specs.Conversion.{convertAnswer, convertResult}
 use Rattle.day_sheet.specs.Answer.{noSheet, writtenRow}
 use Rattle.demands.specs.LentBuffers.{IfRefused, RefusedLeavesAlone}
 

@@ -9,14 +9,15 @@ use Rattle.refusal.specs.Row.{noRefusal}
 use Rattle.card_run.specs.Answer.{cardFileRow}
 use Rattle.card_file.specs.CardFile.{checkOf}
 use Rattle.card_kept.specs.Kept.{Kept}
-use Rattle.day_sheet.specs.declared.sheet.Sheet.{Sheet}
+use Rattle.sheet_numbers.specs.declared.sheet.Sheet.{Sheet}
 use Rattle.day_sheet.specs.declared.reader.SheetRead.the-variants.{Read}
 use Rattle.day_sheet.specs.declared.writer.SheetWritten.{SheetWritten}
 use Rattle.day_sheet.specs.Sheet.{bytesOf}
-use Rattle.day_sheet.specs.Allowed.{sheetAllowed}
+use Rattle.sheet_numbers.specs.Allowed.{sheetAllowed}
 use Rattle.day_sheet.specs.Reading.{readOf}
 use Rattle.day_sheet.specs.Writing.{Writes}
-use Rattle.day_sheet.specs.Conversion.{converted, Converts, convertedBytes}
+use Rattle.sheet_numbers.specs.Converted.{converted}
+use Rattle.day_sheet.specs.Conversion.{Converts, convertedBytes}
 use Rattle.day_sheet.specs.Answer.{readRow}
 use Rattle.card_sheet.specs.SheetOf.{sheetFrom}
 use Rattle.card_sheet.specs.PlainSheet.{plainSheet, plainSheet1}

@@ -8,7 +8,7 @@ use Rattle.card_run.specs.Running.{noNumbers}
 use Rattle.card_run.specs.Answer.{cardFileRow}
 use Rattle.card_mask.specs.Mask.{Masks}
 use Rattle.card_sheet.specs.SheetOf.{SheetOf}
-use Rattle.day_sheet.specs.declared.sheet.Sheet.{Sheet}
+use Rattle.sheet_numbers.specs.declared.sheet.Sheet.{Sheet}
 use Rattle.day_sheet.specs.declared.writer.SheetWritten.{SheetWritten}
 use Rattle.day_sheet.specs.Writing.{Writes}
 use Rattle.day_sheet.specs.Conversion.{Converts}

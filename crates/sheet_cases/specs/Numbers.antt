@@ -6,9 +6,9 @@ use Rattle.totals.specs.declared.amounts.Totals.{Totals}
 use Rattle.totals.specs.TwoSets.{setsOf}
 use Rattle.day_sheet.specs.declared.layout.Version.{Version}
 use Rattle.day_sheet.specs.declared.layout.Version.the-variants.{One, Two}
-use Rattle.day_sheet.specs.declared.sheet.Heading.{Heading}
-use Rattle.day_sheet.specs.declared.sheet.Sheet.{Sheet}
-use Rattle.day_sheet.specs.declared.sheet.Sheet.the-variants.{Version1, Version2}
+use Rattle.sheet_numbers.specs.declared.sheet.Heading.{Heading}
+use Rattle.sheet_numbers.specs.declared.sheet.Sheet.{Sheet}
+use Rattle.sheet_numbers.specs.declared.sheet.Sheet.the-variants.{Version1, Version2}
 use Rattle.cases.specs.Cursor.{bytesAt, highFirst}
 
 -- how many bytes they take: eight numbers, or thirteen

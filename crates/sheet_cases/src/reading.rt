@@ -6,8 +6,8 @@ use cases::cursor;
 use cases::cursor::LENGTH_BYTES;
 use cases::print;
 use day_sheet::reader::SheetRead;
-use day_sheet::sheet::Heading;
-use day_sheet::sheet::Sheet;
+use sheet_numbers::sheet::Heading;
+use sheet_numbers::sheet::Sheet;
 
 // `A version edition date movement batches`
 fn print_heading(version: u64, heading: Heading) {

@@ -9,8 +9,8 @@ use Rattle.wording.proofs.Lengths.{line-short, refused-short}
 use Rattle.program.proofs.Sentences.{sentence-short}
 use Rattle.totals.specs.declared.amounts.Totals.{Totals}
 use Rattle.totals.specs.declared.two_sets.TwoSets.{TwoSets}
-use Rattle.day_sheet.specs.declared.sheet.Heading.{Heading}
-use Rattle.day_sheet.specs.declared.sheet.Sheet.the-variants.{Version1, Version2}
+use Rattle.sheet_numbers.specs.declared.sheet.Heading.{Heading}
+use Rattle.sheet_numbers.specs.declared.sheet.Sheet.the-variants.{Version1, Version2}
 use Rattle.day_sheet.specs.declared.reader.SheetRead.the-variants.{Read, Refused}
 use Rattle.day_sheet.proofs.Filling.{length-digits}
 use Rattle.card_program.proofs.Texts.{totals-short, sets-short}

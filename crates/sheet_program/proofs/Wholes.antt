@@ -10,7 +10,7 @@ use borrow.Author.Tests.{le-leb}
 use Rattle.refusal.specs.declared.Refusal.{Refusal}
 use Rattle.refusal.specs.Nowhere.{nowhere}
 use Rattle.refusal.specs.declared.Cause.the-variants.{SheetNumbersNotAllowed}
-use Rattle.day_sheet.specs.declared.sheet.Sheet.{Sheet}
+use Rattle.sheet_numbers.specs.declared.sheet.Sheet.{Sheet}
 use Rattle.day_sheet.specs.declared.reader.SheetRead.{SheetRead}
 use Rattle.day_sheet.specs.declared.reader.SheetRead.the-variants.{Read, Refused as unread}
 use Rattle.day_sheet.specs.declared.writer.SheetWritten.{SheetWritten}
@@ -19,10 +19,11 @@ use Rattle.day_sheet.specs.declared.layout.Version.{Version}
 use Rattle.day_sheet.specs.declared.layout.Version.the-variants.{One, Two}
 use Rattle.day_sheet.specs.Version.{widthOf}
 use Rattle.day_sheet.specs.Sheet.{versionOf, bytesOf}
-use Rattle.day_sheet.specs.Allowed.{sheetAllowed}
+use Rattle.sheet_numbers.specs.Allowed.{sheetAllowed}
 use Rattle.day_sheet.specs.Reading.{readOf}
 use Rattle.day_sheet.specs.Writing.{sheetWidth, putAnswer, putResult, writeAnswer, writeResult, Writes}
-use Rattle.day_sheet.specs.Conversion.{converted, convertResult, Converts}
+use Rattle.sheet_numbers.specs.Converted.{converted}
+use Rattle.day_sheet.specs.Conversion.{convertResult, Converts}
 use Rattle.day_sheet.proofs.RoundTrip.{bytes-length}
 use Rattle.sheet_program.specs.SheetRead.{convertedRead}
 

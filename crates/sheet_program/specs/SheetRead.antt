@@ -5,7 +5,7 @@ use mathlib.Core.List.{List}
 use Rattle.day_sheet.specs.declared.reader.SheetRead.{SheetRead}
 use Rattle.day_sheet.specs.declared.reader.SheetRead.the-variants.{Read as sheetRead, Refused}
 use Rattle.day_sheet.specs.Reading.{readOf}
-use Rattle.day_sheet.specs.Conversion.{converted}
+use Rattle.sheet_numbers.specs.Converted.{converted}
 use Rattle.program.specs.OfTheFiles.{ofTheFiles}
 use Rattle.sheet_program.specs.declared.read.SheetOutcome.{SheetOutcome}
 use Rattle.sheet_program.specs.declared.read.SheetOutcome.the-variants.{Read, Mistake}

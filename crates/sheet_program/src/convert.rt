@@ -1,7 +1,7 @@
 // A day sheet in the other version, from file to file.
 ghost use mathlib.Core.Path.{_≡_};
 ghost use Rattle.day_sheet.specs.Sheet.{bytesOf};
-ghost use Rattle.day_sheet.specs.Conversion.{converted};
+ghost use Rattle.sheet_numbers.specs.Converted.{converted};
 ghost use Rattle.sheet_program.specs.SheetRead.{SheetConverted};
 use crate::load;
 use crate::load::Content;
@@ -11,10 +11,10 @@ use day_sheet::converter;
 use day_sheet::layout;
 use day_sheet::reader;
 use day_sheet::reader::SheetRead;
-use day_sheet::sheet::Sheet;
 use out_file::place;
 use out_file::saved::Saved;
 use program::mistake::Mistake;
+use sheet_numbers::sheet::Sheet;
 
 // Saves a sheet in the other version, and answers that one's numbers.
 fn save_converted(sheet: Sheet, bytes: &[u8], out: &[u8]) -> SheetOutcome
@@ -38,7 +38,7 @@ fn convert_bytes(bytes: &[u8], out: &[u8]) -> SheetOutcome
     };
     let mut room = [0u8; layout::WIDTH_2];
     converter::convert(bytes, &mut room);
-    let width = sheet.converted().version().width();
+    let width = layout::version_of(sheet.converted()).width();
     save_converted(sheet, &room[..width], out)
 }
 

@@ -2,9 +2,9 @@
 ghost use mathlib.Core.Path.{_≡_};
 ghost use Rattle.day_sheet.specs.Sheet.{bytesOf};
 ghost use Rattle.out_file.specs.Saved.{tellsOfFiles};
-use day_sheet::sheet::Sheet;
 use out_file::draft;
 use out_file::saved::Saved;
+use sheet_numbers::sheet::Sheet;
 
 // Writes a sheet's bytes, and no other, into the file of this name. Nothing else here writes.
 pub(crate) fn save(sheet: Sheet, bytes: &[u8], out: &[u8]) -> Saved

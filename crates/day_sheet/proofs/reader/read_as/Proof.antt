@@ -3,7 +3,7 @@ use mathlib.Core.Path.{sym, _∙_, ap}
 use borrow.Author.Needs.{needs}
 use borrow.Author.Tests.{not-true, not-false}
 use Rattle.day_sheet.specs.declared.reader.SheetRead.the-variants.{Read}
-use Rattle.day_sheet.specs.Allowed.{sheetAllowed}
+use Rattle.sheet_numbers.specs.Allowed.{sheetAllowed}
 use Rattle.day_sheet.proofs.Readings.{room-in, version-in, sheet-in, digits-in, another-version, no-digits, not-allowed, allowed}
 use Rattle.day_sheet.proofs.reader.read_as.Statement.{statement}
 use Rattle.day_sheet.proofs.reader.read_as.Tie as tie

@@ -14,12 +14,12 @@ returns : tie.Need-returns
 returns c = (_, stays-refused _ (c .before .before .read .ensures) (c .enum-told .given .1))
 
 array-share-prefix-room : tie.Need-array-share-prefix-room
-array-share-prefix-room c = omega (arith, width-within (c .before .version .result) (c .width .ensures))
+array-share-prefix-room c = omega (arith, width-within (c .before .version-of .result) (c .width .ensures))
 
 save-converted-requires : tie.Need-save-converted-requires
 save-converted-requires c κs =
     front-sheet _ _ _ (sym (c .before .before .before .before .before .before .before .before .before .before .read .ensures) ∙ c .before .before .before .before .before .before .before .before .read2 .given .1) refl
-    (c .before .width .ensures ∙ ap widthOf (c .before .before .version .ensures ∙ ap versionOf (c .before .before .before .converted .ensures)))
+    (c .before .width .ensures ∙ ap widthOf (c .before .before .version-of .ensures ∙ ap versionOf (c .before .before .before .converted .ensures)))
     (c .before .before .before .before .before .convert .ensures)
 
 returns-2 : tie.Need-returns-2

@@ -1,8 +1,8 @@
--- `day_sheet::allowed::none_of` meets its contract: the tests that led to a return decide the tests of `noneOf` one by one.
+-- `sheet_numbers::allowed::none_of` meets its contract: the tests that led to a return decide the tests of `noneOf` one by one.
 use borrow.Author.Tests.{eq-eqb, ne-eqb}
-use Rattle.day_sheet.specs.Allowed.{noneOf}
-use Rattle.day_sheet.proofs.allowed.none_of.Statement.{statement}
-use Rattle.day_sheet.proofs.allowed.none_of.Tie as tie
+use Rattle.sheet_numbers.specs.Allowed.{noneOf}
+use Rattle.sheet_numbers.proofs.allowed.none_of.Statement.{statement}
+use Rattle.sheet_numbers.proofs.allowed.none_of.Tie as tie
 
 returns : tie.Need-returns
 unfolding noneOf

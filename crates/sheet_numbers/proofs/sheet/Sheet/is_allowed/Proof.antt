@@ -1,10 +1,10 @@
--- `day_sheet::sheet::Sheet::is_allowed` meets its contract: the version picks the case of `sheetAllowed`, and the calls decide its tests.
+-- `sheet_numbers::sheet::Sheet::is_allowed` meets its contract: the version picks the case of `sheetAllowed`, and the calls decide its tests.
 use mathlib.Core.Path.{sym, _∙_}
 use borrow.Author.Needs.{needs}
 use borrow.Author.Tests.{not-true, not-false}
-use Rattle.day_sheet.specs.Allowed.{sheetAllowed}
-use Rattle.day_sheet.proofs.sheet.Sheet.is_allowed.Statement.{statement}
-use Rattle.day_sheet.proofs.sheet.Sheet.is_allowed.Tie as tie
+use Rattle.sheet_numbers.specs.Allowed.{sheetAllowed}
+use Rattle.sheet_numbers.proofs.sheet.Sheet.is_allowed.Statement.{statement}
+use Rattle.sheet_numbers.proofs.sheet.Sheet.is_allowed.Tie as tie
 
 enum-known-self : tie.Need-enum-known-self
 enum-known-self c = search needs

@@ -1,8 +1,6 @@
 // The numbers of a day sheet, and the sheet of the other version.
 ghost use mathlib.Core.Path.{_≡_};
-ghost use Rattle.day_sheet.specs.Sheet.{versionOf};
-ghost use Rattle.day_sheet.specs.Conversion.{converted};
-use crate::layout::Version;
+ghost use Rattle.sheet_numbers.specs.Converted.{converted};
 use totals::amounts::Totals;
 use totals::two_sets::TwoSets;
 
@@ -29,22 +27,6 @@ pub enum Sheet {
 }
 
 impl Sheet {
-    pub fn version(self) -> Version
-        ensures { λ r. ⌜ r ≡ versionOf self ⌝ }
-    {
-        match self {
-            Sheet::Version1 {
-                heading: _,
-                totals: _,
-            } => Version::One,
-            Sheet::Version2 {
-                heading: _,
-                split: _,
-                sets: _,
-            } => Version::Two,
-        }
-    }
-
     // The sheet in the other version: all sales as settled with the split not known, or both sets added.
     pub fn converted(self) -> Sheet
         ensures { λ r. ⌜ r ≡ converted self ⌝ }

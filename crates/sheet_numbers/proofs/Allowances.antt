@@ -13,8 +13,8 @@ use Rattle.totals.specs.Amounts.{agreeing, plus}
 use Rattle.totals.specs.TwoSets.{bothSets, summed}
 use Rattle.totals.proofs.Totals.{Figure, sales, gross, discount, net, figureOf, no-loss}
 use Rattle.calendar.specs.Day.{isDay}
-use Rattle.day_sheet.specs.declared.sheet.Heading.{Heading}
-use Rattle.day_sheet.specs.Allowed.{withinLimits, setAllowed, setsAllowed, headingAllowed, noneOf, splitAllowed}
+use Rattle.sheet_numbers.specs.declared.sheet.Heading.{Heading}
+use Rattle.sheet_numbers.specs.Allowed.{withinLimits, setAllowed, setsAllowed, headingAllowed, noneOf, splitAllowed}
 
 pub record Within (t : Totals) : Type 0 where
   pub sales : t .sales ≤ 999999

@@ -8,9 +8,9 @@ use Rattle.totals.specs.declared.two_sets.TwoSets.{TwoSets}
 use Rattle.totals.specs.Amounts.{agreeing}
 use Rattle.totals.specs.TwoSets.{summed}
 use Rattle.calendar.specs.Day.{isDay}
-use Rattle.day_sheet.specs.declared.sheet.Heading.{Heading}
-use Rattle.day_sheet.specs.declared.sheet.Sheet.{Sheet}
-use Rattle.day_sheet.specs.declared.sheet.Sheet.the-variants.{Version1, Version2}
+use Rattle.sheet_numbers.specs.declared.sheet.Heading.{Heading}
+use Rattle.sheet_numbers.specs.declared.sheet.Sheet.{Sheet}
+use Rattle.sheet_numbers.specs.declared.sheet.Sheet.the-variants.{Version1, Version2}
 
 -- a count and three totals
 unfoldable pub withinLimits : Totals → Bool

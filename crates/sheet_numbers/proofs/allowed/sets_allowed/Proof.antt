@@ -1,11 +1,11 @@
--- `day_sheet::allowed::sets_allowed` meets its contract: the tests that led to a return decide those of `setsAllowed`; where both sets are allowed, nothing is lost in
+-- `sheet_numbers::allowed::sets_allowed` meets its contract: the tests that led to a return decide those of `setsAllowed`; where both sets are allowed, nothing is lost in
 -- their sum.
 use mathlib.Core.Path.{sym, _∙_, ap}
 use borrow.Author.Tests.{not-true, not-false}
-use Rattle.day_sheet.specs.Allowed.{withinLimits, setsAllowed}
-use Rattle.day_sheet.proofs.Allowances.{set-within, sum-plain}
-use Rattle.day_sheet.proofs.allowed.sets_allowed.Statement.{statement}
-use Rattle.day_sheet.proofs.allowed.sets_allowed.Tie as tie
+use Rattle.sheet_numbers.specs.Allowed.{withinLimits, setsAllowed}
+use Rattle.sheet_numbers.proofs.Allowances.{set-within, sum-plain}
+use Rattle.sheet_numbers.proofs.allowed.sets_allowed.Statement.{statement}
+use Rattle.sheet_numbers.proofs.allowed.sets_allowed.Tie as tie
 
 returns : tie.Need-returns
 unfolding setsAllowed

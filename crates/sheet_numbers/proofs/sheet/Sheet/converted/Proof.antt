@@ -1,8 +1,8 @@
--- `day_sheet::sheet::Sheet::converted` meets its contract: the version picks the case of `converted`.
+-- `sheet_numbers::sheet::Sheet::converted` meets its contract: the version picks the case of `converted`.
 use borrow.Author.Needs.{needs}
-use Rattle.day_sheet.specs.Conversion.{converted}
-use Rattle.day_sheet.proofs.sheet.Sheet.converted.Statement.{statement}
-use Rattle.day_sheet.proofs.sheet.Sheet.converted.Tie as tie
+use Rattle.sheet_numbers.specs.Converted.{converted}
+use Rattle.sheet_numbers.proofs.sheet.Sheet.converted.Statement.{statement}
+use Rattle.sheet_numbers.proofs.sheet.Sheet.converted.Tie as tie
 
 enum-known-self : tie.Need-enum-known-self
 enum-known-self c = search needs

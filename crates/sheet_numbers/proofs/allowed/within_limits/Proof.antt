@@ -1,8 +1,8 @@
--- `day_sheet::allowed::within_limits` meets its contract: the tests that led to a return decide the tests of `withinLimits` one by one.
+-- `sheet_numbers::allowed::within_limits` meets its contract: the tests that led to a return decide the tests of `withinLimits` one by one.
 use borrow.Author.Tests.{le-leb, lt-leb, lt-ltb, le-ltb}
-use Rattle.day_sheet.specs.Allowed.{withinLimits}
-use Rattle.day_sheet.proofs.allowed.within_limits.Statement.{statement}
-use Rattle.day_sheet.proofs.allowed.within_limits.Tie as tie
+use Rattle.sheet_numbers.specs.Allowed.{withinLimits}
+use Rattle.sheet_numbers.proofs.allowed.within_limits.Statement.{statement}
+use Rattle.sheet_numbers.proofs.allowed.within_limits.Tie as tie
 
 returns : tie.Need-returns
 unfolding withinLimits

@@ -1,9 +1,9 @@
--- `day_sheet::allowed::split_allowed` meets its contract: each arm's number picks the case of `splitAllowed`.
+-- `sheet_numbers::allowed::split_allowed` meets its contract: each arm's number picks the case of `splitAllowed`.
 use mathlib.Core.Path.{sym, _∙_}
 use borrow.Author.Tests.{ne-eqb}
-use Rattle.day_sheet.specs.Allowed.{splitAllowed}
-use Rattle.day_sheet.proofs.allowed.split_allowed.Statement.{statement}
-use Rattle.day_sheet.proofs.allowed.split_allowed.Tie as tie
+use Rattle.sheet_numbers.specs.Allowed.{splitAllowed}
+use Rattle.sheet_numbers.proofs.allowed.split_allowed.Statement.{statement}
+use Rattle.sheet_numbers.proofs.allowed.split_allowed.Tie as tie
 
 returns : tie.Need-returns
 unfolding splitAllowed

@@ -1,7 +1,7 @@
 // Whether a sheet may hold its numbers.
 ghost use mathlib.Core.Path.{_≡_};
 ghost use mathlib.Core.Bool.{true, _&&_};
-ghost use Rattle.day_sheet.specs.Allowed.{withinLimits, setAllowed, headingAllowed, noneOf, splitAllowed, setsAllowed, sheetAllowed};
+ghost use Rattle.sheet_numbers.specs.Allowed.{withinLimits, setAllowed, headingAllowed, noneOf, splitAllowed, setsAllowed, sheetAllowed};
 use crate::sheet::Heading;
 use crate::sheet::Sheet;
 use totals::amounts::Totals;

@@ -1,9 +1,9 @@
--- `day_sheet::allowed::heading_allowed` meets its contract: the tests that led to a return decide the tests of `headingAllowed` one by one.
+-- `sheet_numbers::allowed::heading_allowed` meets its contract: the tests that led to a return decide the tests of `headingAllowed` one by one.
 use mathlib.Core.Path.{sym, _∙_}
 use borrow.Author.Tests.{le-leb, lt-leb, not-true, not-false}
-use Rattle.day_sheet.specs.Allowed.{headingAllowed}
-use Rattle.day_sheet.proofs.allowed.heading_allowed.Statement.{statement}
-use Rattle.day_sheet.proofs.allowed.heading_allowed.Tie as tie
+use Rattle.sheet_numbers.specs.Allowed.{headingAllowed}
+use Rattle.sheet_numbers.proofs.allowed.heading_allowed.Statement.{statement}
+use Rattle.sheet_numbers.proofs.allowed.heading_allowed.Tie as tie
 
 returns : tie.Need-returns
 unfolding headingAllowed

@@ -1,8 +1,8 @@
--- `day_sheet::allowed::set_allowed` meets its contract: the first call decides, or the second.
+-- `sheet_numbers::allowed::set_allowed` meets its contract: the first call decides, or the second.
 use mathlib.Core.Path.{sym, _∙_}
-use Rattle.day_sheet.specs.Allowed.{setAllowed}
-use Rattle.day_sheet.proofs.allowed.set_allowed.Statement.{statement}
-use Rattle.day_sheet.proofs.allowed.set_allowed.Tie as tie
+use Rattle.sheet_numbers.specs.Allowed.{setAllowed}
+use Rattle.sheet_numbers.proofs.allowed.set_allowed.Statement.{statement}
+use Rattle.sheet_numbers.proofs.allowed.set_allowed.Tie as tie
 
 returns : tie.Need-returns
 unfolding setAllowed

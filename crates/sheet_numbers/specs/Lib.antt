@@ -1,0 +1,2 @@
+pub mod Allowed
+pub mod Converted
