@@ -1,6 +1,5 @@
 // Whether a sheet may hold its numbers.
 ghost use mathlib.Core.Path.{_≡_};
-ghost use mathlib.Core.Bool.{true, _&&_};
 ghost use Rattle.sheet_numbers.specs.Allowed.{withinLimits, setAllowed, headingAllowed, noneOf, splitAllowed, setsAllowed, sheetAllowed};
 use crate::sheet::Heading;
 use crate::sheet::Sheet;
