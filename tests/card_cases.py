@@ -1,5 +1,5 @@
 #!/usr/bin/env python3
-"""Our own cases of card files, written by hand from document 01 and requests Q-7, Q-2 and Q-4 of document 02.
+"""Our own cases of card files, written by hand from document 01 and requests Q-7, Q-2, Q-4 and Q-11 of document 02.
 
     tests/card_cases.py           write the files below
     tests/card_cases.py --list    and print where in `stdout` each case stands, its name and its answer
@@ -60,11 +60,9 @@ def feed(name, calls, *answers, edition=2):
 # ---- Whole files: the examples of document 01 ----------------------------------------------------------------------------------------------
 
 card("an empty file", b"", "R 12 1 0")
-card("an empty file, edition 1", b"", "R 12 1 0", edition=1)
 card("five records", FIVE, "A 20231115 000042 5 1 0 0 0 0 1 10000 250 9750 0 0 0 0")
-card("five records, edition 1", FIVE, "A 20231115 000042 5 1 0 0 0 0 1 10000 250 9750 0 0 0 0", edition=1)
 card("CV numbered 000004", sale(put(CV, 194, b"000004")), "R 9 3 194")
-card("capture 7 under edition 1", sale(put(CV, 54, b"7")), "R 8 3 54", edition=1)
+card("capture 7 under edition 1", sale(put(CV, 54, b"7")), "R 22 0 0", edition=1)
 card("capture 7 under edition 2", sale(put(CV, 54, b"7")), ACCEPTED)
 card("net 9751", sale(put(CV, 77, b"00000009751")), "R 10 3 77")
 card("20240229 is a date", head(put(A0, 9, b"20240229")), "A 20240229 000042 5 1 0 0 0 0 1 10000 250 9750 0 0 0 0")
@@ -72,13 +70,17 @@ card("20230229 is none", head(put(A0, 9, b"20230229")), "R 8 1 9")
 card("19991231 is none", head(put(A0, 9, b"19991231")), "R 8 1 9")
 card("20991231 is a date", head(put(A0, 9, b"20991231")), "A 20991231 000042 5 1 0 0 0 0 1 10000 250 9750 0 0 0 0")
 
-# ---- Editions: 1 comes before everything ----------------------------------------------------------------------------------------------------
+# ---- Editions: 1 comes before everything, and 22 right after it -----------------------------------------------------------------------------
 
 for edition in (0, 3, 7, 255):
     card(f"edition {edition}", FIVE, "R 1 0 0", edition)
 card("edition 0, an empty file", b"", "R 1 0 0", edition=0)
 card("edition 3, no line end", b"A0", "R 1 0 0", edition=3)
 card("edition 0, an unknown kind", whole(b"XX"), "R 1 0 0", edition=0)
+for name, file in (("five records", FIVE), ("an adjustment", adjustment(AJ)), ("an empty file", b""), ("no line end", b"A0"),
+                   ("an unknown kind", whole(b"XX")), ("net 9751", sale(put(CV, 77, b"00000009751"))),
+                   ("a file that ends too early", whole(A0, L0, CV)), ("a byte after the end", FIVE + b"x")):
+    card(f"edition 1, {name}", file, "R 22 0 0", edition=1)
 
 # ---- The traps of document 01's last section ------------------------------------------------------------------------------------------------
 
@@ -90,7 +92,7 @@ card("a card of nineteen zeros", sale(put(CV, 88, b"0000000000000000000")), ACCE
 card("a card with a wrong check digit", sale(put(CV, 88, b"0004111111111111112")), ACCEPTED)
 card("a card with a blank", sale(put(CV, 88, b"0004111 11111111111")), "R 7 3 88")
 card("a card with a letter at its end", sale(put(CV, 106, b"x")), "R 7 3 88")
-card("001.7d chooses no edition: capture 7 under edition 1", whole(A0, L0, put(CV, 54, b"7"), L9, A9), "R 8 3 54", edition=1)
+card("001.7d chooses no edition: capture 7 under edition 1", whole(A0, L0, put(CV, 54, b"7"), L9, A9), "R 22 0 0", edition=1)
 
 THIRD = put(CV, 55, b"00000030000" b"00000000750" b"00000029250")  # a sale of 30000 ..
 FIRST_OF_3 = put(THIRD, 107, b"01" b"03" b"000000000071" b"00000010002" b"00000000250" b"00000009752")  # .. in three instalments
@@ -269,8 +271,9 @@ for product in (b"C", b"D", b"V"):
 card("8: product X", sale(put(CV, 53, b"X")), "R 8 3 53")
 card("8, not 7: byte 0 as the product", sale(put(CV, 53, b"\x00")), "R 8 3 53")
 for capture in (b"1", b"6", b"8", b"9"):
-    card("capture %s under edition 1" % capture.decode(), sale(put(CV, 54, capture)), ACCEPTED, edition=1)
+    card("capture %s" % capture.decode(), sale(put(CV, 54, capture)), ACCEPTED)
 card("8: capture 0", sale(put(CV, 54, b"0")), "R 8 3 54")
+card("8, not 7: capture ':'", sale(put(CV, 54, b":")), "R 8 3 54")
 card("8, not 7: capture x", sale(put(CV, 54, b"x")), "R 8 3 54")
 card("7: gross, first", sale(put(CV, 55, b"x")), "R 7 3 55")
 card("7: gross, last", sale(put(CV, 65, b"-")), "R 7 3 55")
@@ -381,7 +384,6 @@ card("A9: 11 before 13", end(put(A9, 3, b"000006")) + b"x", "R 11 5 3")
 # ---- Adjustments: where they stand, and the order of refusals -----------------------------------------------------------------------------------
 
 card("an adjustment", adjustment(AJ), ADJUSTED)
-card("an adjustment, edition 1", adjustment(AJ), ADJUSTED, edition=1)
 card("AJ, 13: after the end", FIVE + whole(AJ), "R 13 6 0")
 card("AJ, 12: the file ends behind it", whole(A0, L0, AJ), "R 12 4 0")
 card("AJ, 3: an LF in its description", adjustment(put(AJ, 90, b"\n")), "R 3 3 0")
@@ -455,13 +457,9 @@ for text in (b"/01500", b"10150:", b"      ", b"00000 ", b"99999x"):
 # The closed sets: launch type, capture, type of adjustment
 for launch_type in (b"0", b"1", b"2"):
     card("AJ, launch type %s" % launch_type.decode(), adjustment(put(AJ, 66, launch_type)), ADJUSTED)
-for capture in (b"1", b"2", b"3", b"4", b"5", b"6", b"9"):
+for capture in (b"1", b"2", b"3", b"4", b"5", b"6", b"7", b"9"):
     card("AJ, capture %s" % capture.decode(), adjustment(put(AJ, 75, capture)), ADJUSTED)
-    card("AJ, capture %s under edition 1" % capture.decode(), adjustment(put(AJ, 75, capture)), ADJUSTED, edition=1)
-card("AJ, capture 7 under edition 2", adjustment(put(AJ, 75, b"7")), ADJUSTED)
-card("AJ, 8 at 75: capture 7 under edition 1", adjustment(put(AJ, 75, b"7")), "R 8 3 75", edition=1)
-card("AJ, 8 at 75: capture 8 under edition 1", adjustment(put(AJ, 75, b"8")), "R 8 3 75", edition=1)
-card("AJ, 8 at 75: capture 7 of a debit under edition 1", file_of((2, 8050, CV, put(DEBIT, 75, b"7"))), "R 8 4 75", edition=1)
+card("AJ, 8 at 75: capture 8 of a debit", file_of((2, 8050, CV, put(DEBIT, 75, b"8"))), "R 8 4 75")
 for column, values in ((66, (b"/", b"3", b"x", b" ", b"\xff")), (75, (b"0", b"8", b":", b"x", b" ")), (76, (b"0", b"3", b"x", b" ", b"\x00"))):
     for value in values:
         card(f"AJ, 8 at {column}, not 7: {value}", adjustment(put(AJ, column, value)), f"R 8 3 {column}")
@@ -503,14 +501,13 @@ for kind, file, right, place, accepted, texts, sets, others in KINDS:
         for column in others:
             card(f"{kind}, 7 at {column}: byte {byte[0]} is no digit", file(put(right, column, byte)), f"R 7 {place} {column}")
 
-# Names as they are written in Latin-1, a byte for each letter; under both editions. In UTF-8 a letter has two bytes, which are judged like any others.
+# Names as they are written in Latin-1, a byte for each letter. In UTF-8 a letter has two bytes, which are judged like any others.
 NAMED = put(A0, 29, "ESTAÇÕES DE SÃO JOÃO".encode("latin-1"))
 ACCENTED = put(CV, 3, "CONCEIÇÃO Nº 7".encode("latin-1"))
 ACCENTED_AJ = put(put(AJ, 3, "CONCEIÇÃO Nº 7".encode("latin-1")), 80, "LANÇAMENTO DE BÔNUS DO MÊS".encode("latin-1"))
-for edition in (1, 2):
-    card(f"accents in the header's name, edition {edition}", head(NAMED), ACCEPTED, edition)
-    card(f"accents in a store, edition {edition}", sale(ACCENTED), ACCEPTED, edition)
-    card(f"accents in an adjustment, edition {edition}", adjustment(ACCENTED_AJ), ADJUSTED, edition)
+card("accents in the header's name", head(NAMED), ACCEPTED)
+card("accents in a store", sale(ACCENTED), ACCEPTED)
+card("accents in an adjustment", adjustment(ACCENTED_AJ), ADJUSTED)
 HIGH = bytes(range(160, 256))
 card("every byte from 160 on", file_of((4, 20975, put(CV, 3, HIGH[:15]), put(CV, 3, HIGH[15:30]), put(put(AJ, 3, HIGH[30:45]), 80, HIGH[45:75]),
                                         put(DEBIT, 80, HIGH[66:]))), "A 20231115 000042 8 1 0 0 0 0 2 20000 500 19500 1 2925 1 1950")
@@ -525,7 +522,6 @@ card("accents, and the fault of a later record", whole(NAMED, L0, ACCENTED, L9, 
 
 MIXED = "A 20231115 000042 7 1 0 0 0 0 1 10000 250 9750 1 2925 1 1950"
 card("a sale, a credit and a debit", file_of((3, 10975, CV, AJ, DEBIT)), MIXED)
-card("a sale, a credit and a debit, edition 1", file_of((3, 10975, CV, AJ, DEBIT)), MIXED, edition=1)
 card("in another order", file_of((3, 10975, AJ, DEBIT, CV)), MIXED)
 card("below zero on the way is no fault", file_of((3, 10975, DEBIT, AJ, CV)), MIXED)
 for launch_type in (b"0", b"2"):
@@ -575,10 +571,9 @@ card("a batch of nothing behind adjustments", file_of((3, 10975, CV, AJ, DEBIT),
 
 # ---- Forecasts and settled sales: launch type 0, and 1 and 2 ------------------------------------------------------------------------------------------
 
-for edition in (2, 1):
-    card(f"launch type 0 is forecast, edition {edition}", sale(AHEAD), FORECAST, edition)
-    card(f"launch type 1 is settled, edition {edition}", sale(CV), ACCEPTED, edition)
-    card(f"launch type 2 is settled, edition {edition}", sale(ADVANCED), ACCEPTED, edition)
+card("launch type 0 is forecast", sale(AHEAD), FORECAST)
+card("launch type 1 is settled", sale(CV), ACCEPTED)
+card("launch type 2 is settled", sale(ADVANCED), ACCEPTED)
 # A sale of 4000 = 100 + 3900, and one of 500 = 0 + 500.
 SMALLER, SMALL = put(CV, 55, b"00000004000" b"00000000100" b"00000003900"), put(CV, 55, b"00000000500" b"00000000000" b"00000000500")
 ONE_OF_EACH = "A 20231115 000042 7 1 1 4000 100 3900 2 10500 250 10250 0 0 0 0"
@@ -628,11 +623,11 @@ R = [A0, L0, CV, L9, A9]
 
 feed("no call", [])
 feed("no call, edition 3", [], edition=3)
+feed("no call, edition 1", [], edition=1)
 feed("a close before any record", [CLOSE], "R 12 1 0")
 feed("a close before any record, twice, and a record", [CLOSE, CLOSE, A0], "R 12 1 0", "R 12 1 0", "R 12 1 0")
 feed("five records, not closed", R, "-", "-", "-", "-", "-")
 feed("five records, closed", R + [CLOSE], "-", "-", "-", "-", "-", ACCEPTED)
-feed("five records, edition 1", R + [CLOSE], "-", "-", "-", "-", "-", ACCEPTED, edition=1)
 feed("closed twice: the same answer", R + [CLOSE, CLOSE, CLOSE], "-", "-", "-", "-", "-", ACCEPTED, ACCEPTED, ACCEPTED)
 feed("a record after an accepted close is 13, for good", R + [CLOSE, A0, CLOSE, A9, b""],
      "-", "-", "-", "-", "-", ACCEPTED, "R 13 6 0", "R 13 6 0", "R 13 6 0", "R 13 6 0")
@@ -648,11 +643,14 @@ feed("closed behind L9", [A0, L0, CV, L9, CLOSE], "-", "-", "-", "-", "R 12 5 0"
 for edition in (0, 3, 255):
     feed(f"edition {edition}", R + [CLOSE], *["R 1 0 0"] * 6, edition=edition)
 feed("edition 0, closed at once", [CLOSE, CLOSE], "R 1 0 0", "R 1 0 0", edition=0)
+feed("edition 1, and records after the close", R + [CLOSE, CLOSE, A0, b"", CLOSE], *["R 22 0 0"] * 10, edition=1)
+feed("edition 1, closed at once, and a record", [CLOSE, CLOSE, A0], *["R 22 0 0"] * 3, edition=1)
+feed("edition 1, an empty record, a record with an LF, and A9", [b"", b"XX\n", A9, CLOSE], *["R 22 0 0"] * 4, edition=1)
 feed("a refusal stays: A0 numbered 000002, then the right five", [numbered(A0, 2)] + R + [CLOSE], *["R 9 1 70"] * 7)
 feed("a refusal stays: another fault later", [A0, L0, put(CV, 54, b"0"), b"", b"XX", CLOSE], "-", "-", *["R 8 3 54"] * 4)
 feed("no answer looks ahead: A9 is wrong", R[:4] + [put(A9, 3, b"000004"), CLOSE], "-", "-", "-", "-", "R 11 5 3", "R 11 5 3")
 feed("CV numbered 000004", [A0, L0, put(CV, 194, b"000004"), CLOSE], "-", "-", "R 9 3 194", "R 9 3 194")
-feed("capture 7 under edition 1", [A0, L0, put(CV, 54, b"7")], "-", "-", "R 8 3 54", edition=1)
+feed("capture 7 under edition 1", [A0, L0, put(CV, 54, b"7")], *["R 22 0 0"] * 3, edition=1)
 feed("capture 7 under edition 2", [A0, L0, put(CV, 54, b"7")], "-", "-", "-")
 feed("10", [A0, L0, put(CV, 87, b"1"), L9], "-", "-", "R 10 3 77", "R 10 3 77")
 feed("an empty record", [b"", A0], "R 4 1 1", "R 4 1 1")
@@ -685,14 +683,12 @@ def fed(file):
 
 
 feed("a forecast", fed(sale(AHEAD)), *["-"] * 5, FORECAST)
-feed("a forecast, edition 1", fed(sale(AHEAD)), *["-"] * 5, FORECAST, edition=1)
 feed("one of each launch type", fed(file_of((3, 14500, EARLY, CV, LATE))), *["-"] * 7, ONE_OF_EACH)
 feed("one of each, closed twice", fed(file_of((3, 14500, LATE, EARLY, CV))) + [CLOSE], *["-"] * 7, ONE_OF_EACH, ONE_OF_EACH)
 feed("L9's sum: the settled alone", fed(file_of((3, 10500, EARLY, CV, LATE))), *["-"] * 5, *["R 11 6 9"] * 3)
 feed("a batch of forecasts, and one of the sale", fed(file_of((1, 10000, AHEAD), (1, 10000, CV))), *["-"] * 8,
      "A 20231115 000042 8 2 1 10000 250 9750 1 10000 250 9750 0 0 0 0")
 feed("an adjustment", fed(adjustment(AJ)), *["-"] * 5, ADJUSTED)
-feed("an adjustment, edition 1", fed(adjustment(AJ)), *["-"] * 5, ADJUSTED, edition=1)
 feed("an adjustment with a blank card", fed(adjustment(put(AJ, 163, b" " * 19))), *["-"] * 5, ADJUSTED)
 feed("a sale, a credit and a debit", fed(file_of((3, 10975, CV, AJ, DEBIT))), *["-"] * 7, MIXED)
 feed("a debit first: below zero on the way", fed(file_of((3, 10975, DEBIT, AJ, CV))), *["-"] * 7, MIXED)
@@ -708,8 +704,7 @@ feed("AJ after A9", R + [numbered(AJ, 6), CLOSE], *["-"] * 5, *["R 13 6 0"] * 2)
 feed("AJ after an accepted close", fed(adjustment(AJ)) + [AJ, CLOSE], *["-"] * 5, ADJUSTED, "R 13 6 0", "R 13 6 0")
 feed("closed behind an AJ", [A0, L0, AJ, CLOSE], "-", "-", "-", "R 12 4 0")
 feed("AJ as wide as CV", [A0, L0, put(CV, 1, b"AJ"), CLOSE], "-", "-", "R 6 3 0", "R 6 3 0")
-feed("AJ, capture 7 under edition 1", [A0, L0, put(AJ, 75, b"7")], "-", "-", "R 8 3 75", edition=1)
-feed("AJ, capture 7 under edition 2", [A0, L0, put(AJ, 75, b"7")], "-", "-", "-")
+feed("AJ, capture 7", [A0, L0, put(AJ, 75, b"7")], "-", "-", "-")
 feed("AJ, capture 8", [A0, L0, put(AJ, 75, b"8"), CLOSE], "-", "-", "R 8 3 75", "R 8 3 75")
 feed("AJ, zeros in the date that is not optional", [A0, L0, put(AJ, 52, b"00000000"), CLOSE], "-", "-", "R 8 3 52", "R 8 3 52")
 feed("AJ, an LF inside its description is 7, not 3", [A0, L0, put(AJ, 90, b"\n")], "-", "-", "R 7 3 80")
@@ -717,7 +712,7 @@ feed("AJ, a blank card with an LF", [A0, L0, put(AJ, 163, b" " * 18 + b"\n")], "
 feed("AJ, a CR LF at its end is two bytes more", [A0, L0, AJ + CRLF], "-", "-", "R 6 3 0")
 feed("AJ, 10", [A0, L0, put(AJ, 142, b"6"), L9, CLOSE], "-", "-", *["R 10 3 132"] * 3)
 feed("accents in the header's name and in a store", fed(whole(NAMED, L0, ACCENTED, L9, A9)), *["-"] * 5, ACCEPTED)
-feed("accents in an adjustment, edition 1", fed(adjustment(ACCENTED_AJ)), *["-"] * 5, ADJUSTED, edition=1)
+feed("accents in an adjustment", fed(adjustment(ACCENTED_AJ)), *["-"] * 5, ADJUSTED)
 feed("byte 159 in the header's name", [put(NAMED, 58, b"\x9f"), L0, CLOSE], *["R 7 1 29"] * 3)
 feed("an accent in the card", [A0, L0, put(CV, 88, b"\xe9"), CLOSE], "-", "-", *["R 7 3 88"] * 2)
 
@@ -725,7 +720,7 @@ feed("an accent in the card", [A0, L0, put(CV, 88, b"\xe9"), CLOSE], "-", "-", *
 
 LIMITS = [
     ("edition 0", "R 1 0 0"),
-    ("edition 1", ACCEPTED),
+    ("edition 1", "R 22 0 0"),
     ("edition 2", ACCEPTED),
     ("edition 3", "R 1 0 0"),
     ("edition 258", "R 1 0 0"),

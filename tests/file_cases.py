@@ -1,5 +1,5 @@
 #!/usr/bin/env python3
-"""The cases of the programs' work, written by hand from document 01 and requests Q-4, Q-5 and Q-7 of document 02.
+"""The cases of the programs' work, written by hand from document 01 and requests Q-4, Q-5, Q-7 and Q-11 of document 02.
 
     tests/file_cases.py
 
@@ -23,8 +23,10 @@ LONG = list(card_file([[SALE] * 700]))
 WIDE = LONG[0] + b"L0".ljust(70000) + b"\r\n"
 
 DAY_SHEET, OLD_SHEET = FILES["day.sheet"], FILES["old.sheet"]
-# Where the last byte of the version stands, and the split.
-VERSION, SPLIT = 4, 52
+# A sheet of version 2 whose split is not known.
+SPLIT_0_SHEET = sheet(2, (4, 4), (65990, 8), (1650, 8), (64340, 8), (0, 1), (0, 4), (0, 8), (0, 8), (0, 8))
+# Where the last byte of the version stands, the edition, and the split.
+VERSION, EDITION, SPLIT = 4, 5, 52
 
 
 def with_byte(content, at, byte):
@@ -44,7 +46,7 @@ DATA = {
     # version 2 in 52 bytes, and 1 in 81
     "2-in-52.sheet": with_byte(OLD_SHEET, VERSION, 2),
     "1-in-81.sheet": with_byte(DAY_SHEET, VERSION, 1),
-    "split-0.sheet": sheet(2, (4, 4), (65990, 8), (1650, 8), (64340, 8), (0, 1), (0, 4), (0, 8), (0, 8), (0, 8)),
+    "split-0.sheet": SPLIT_0_SHEET,
     "split-2.sheet": with_byte(DAY_SHEET, SPLIT, 2),
     # a forecast, though the split is not known
     "split-0-forecast.sheet": with_byte(DAY_SHEET, SPLIT, 0),
@@ -54,6 +56,10 @@ DATA = {
                            (499999, 4), (49999999999999999, 8), (19999999999999999, 8), (30000000000000000, 8)),
     "too-large.sheet": sheet(2, (500000, 4), (50000000000000000, 8), (20000000000000000, 8), (30000000000000000, 8), (1, 1),
                              (500000, 4), (49999999999999999, 8), (19999999999999999, 8), (30000000000000000, 8)),
+    # sheets from before edition 1 was retired: version 1, and version 2 with either split
+    "edition-1.sheet": with_byte(OLD_SHEET, EDITION, 1),
+    "edition-1-split-0.sheet": with_byte(SPLIT_0_SHEET, EDITION, 1),
+    "edition-1-split-1.sheet": with_byte(DAY_SHEET, EDITION, 1),
     "empty": b"",
     "no-line-end.card": FILES["day.card"][:-2],
     "no-line-end.payroll": FILES["wages.payroll"][:-2],
@@ -109,8 +115,9 @@ def refused(number, record, column):
 
 REFUSED = refused(9, 3, 194)
 BAD_EDITION = refused(1, 0, 0)
+RETIRED = refused(22, 0, 0)
 NO_LINE_END = refused(3, 12, 0)
-NO_NUMBER = b"EDITION is no number: give 1 (June 2013) or 2 (November 2023).\n"
+NO_NUMBER = b"EDITION is no number: give 2 (November 2023).\n"
 NO_FILE = b"FILE cannot be opened, so check its name and that you may read it: No such file or directory\n"
 LONG_NAME = b"FILE cannot be opened, so check its name and that you may read it: File name too long\n"
 NO_READ = b"the file cannot be read to its end, so give a file that can, and no folder: Is a directory\n"
@@ -136,15 +143,25 @@ OLD_IN_HEX = (b"445348" b"0001" b"02" b"3230323331313135" b"303030303432" b"0000
 SPLIT_0_IN_HEX = (b"445348" b"0002" b"02" b"3230323331313135" b"303030303432" b"00000003"
                   b"00000004" b"00000000000101c6" b"0000000000000672" b"000000000000fb54"
                   b"00" b"00000000" b"0000000000000000" b"0000000000000000" b"0000000000000000\n")
+# Both with edition 1.
+OLD_1_IN_HEX = (b"445348" b"0001" b"01" b"3230323331313135" b"303030303432" b"00000003"
+                b"00000004" b"00000000000101c6" b"0000000000000672" b"000000000000fb54\n")
+SPLIT_0_1_IN_HEX = (b"445348" b"0002" b"01" b"3230323331313135" b"303030303432" b"00000003"
+                    b"00000004" b"00000000000101c6" b"0000000000000672" b"000000000000fb54"
+                    b"00" b"00000000" b"0000000000000000" b"0000000000000000" b"0000000000000000\n")
 # The largest sheet in version 1: 999999 (F423F), 10^17 - 1 (16345785D89FFFF), 39999999999999999 (8E1BC9BF03FFFF), 6 * 10^16 (D529AE9E860000).
 LARGEST_IN_HEX = (b"445348" b"0001" b"02" b"3230323331313135" b"303030303432" b"00000003"
                   b"000f423f" b"016345785d89ffff" b"008e1bc9bf03ffff" b"00d529ae9e860000\n")
 
 HEADING = b"EDITION 2\nDATE 20231115\nMOVEMENT 000042\nBATCHES 3\n"
-OLD_NUMBERS = HEADING + b"SALES 4\nGROSS 65990\nDISCOUNT 1650\nNET 64340\n"
+HEADING_1 = b"EDITION 1\nDATE 20231115\nMOVEMENT 000042\nBATCHES 3\n"
+BOTH_ADDED = b"SALES 4\nGROSS 65990\nDISCOUNT 1650\nNET 64340\n"
+OLD_NUMBERS, OLD_1_NUMBERS = HEADING + BOTH_ADDED, HEADING_1 + BOTH_ADDED
 DAY_NUMBERS = b"VERSION 2\n" + HEADING + b"SPLIT 1\n" + DAY_SETS
+DAY_1_NUMBERS = b"VERSION 2\n" + HEADING_1 + b"SPLIT 1\n" + DAY_SETS
 ALL_SETTLED = NO_FORECAST + b"SETTLED SALES 4\nSETTLED GROSS 65990\nSETTLED DISCOUNT 1650\nSETTLED NET 64340\n"
 SPLIT_0_NUMBERS = b"VERSION 2\n" + HEADING + b"SPLIT 0\n" + ALL_SETTLED
+SPLIT_0_1_NUMBERS = b"VERSION 2\n" + HEADING_1 + b"SPLIT 0\n" + ALL_SETTLED
 NO_FORECAST_NUMBERS = b"VERSION 2\n" + HEADING + b"SPLIT 1\n" + ALL_SETTLED
 LARGEST_NUMBERS = (b"VERSION 2\n" + HEADING + b"SPLIT 1\n"
                    b"FORECAST SALES 499999\nFORECAST GROSS 49999999999999999\nFORECAST DISCOUNT 19999999999999999\nFORECAST NET 30000000000000000\n"
@@ -223,8 +240,8 @@ def ask_there_and_back(title, file, text, content, text_back, content_back):
 # ---- The cases -----------------------------------------------------------------------------------------------------------------------------
 
 ask(CARD, b"card, a day", b"2", b"day.card", DAY)
-# the second sale was captured by 7
-ask(CARD, b"card, a day under edition 1", b"1", b"day.card", refused(8, 4, 54))
+ask(CARD, b"card, a day under edition 1", b"1", b"day.card", RETIRED)
+ask(CARD, b"card, empty under edition 1", b"1", b"empty", RETIRED)
 ask(CARD, b"card, a day under edition 3", b"3", b"day.card", BAD_EDITION)
 ask(CARD, b"card, a day with adjustments", b"2", b"adjusted.card", ADJUSTED)
 ask(CARD, b"card, refused", b"2", b"refused.card", REFUSED)
@@ -236,6 +253,7 @@ ask(CARD, b"card, a descriptor that is not open", b"2", b"none", NOT_OPEN)
 ask(CARD, b"card, no line end", b"2", b"no-line-end.card", NO_LINE_END)
 # the edition is what the bytes of the argument state
 ask(CARD, b"card, an edition with zeros in front", b"0002", b"day.card", DAY)
+ask(CARD, b"card, an edition of 64 bits and 1", b"18446744073709551617", b"day.card", BAD_EDITION)
 ask(CARD, b"card, an edition of 64 bits and 2", b"18446744073709551618", b"day.card", BAD_EDITION)
 for word in b"", b"two", b"+2", b"2 ", b"2.0":
     ask(CARD, b"card, the edition '" + word + b"'", word, b"day.card", NO_NUMBER)
@@ -266,7 +284,8 @@ ask_alone(MASK, b"mask, empty", b"2", b"empty", refused(12, 1, 0), LINES, NO_OUT
 ask_alone(MASK, b"mask, no line end", b"2", b"no-line-end.card", NO_LINE_END, LINES, NO_OUT)
 ask_alone(MASK, b"mask, no edition over an OUT", b"two", b"day.card", NO_NUMBER, LINES, BEFORE, before=BEFORE)
 ask_alone(MASK, b"mask, a name of 5,000 bytes", b"2", b"x" * 5000, LONG_NAME, LINES, BEFORE, before=BEFORE)
-ask_alone(MASK, b"mask, a day under edition 1", b"1", b"day.card", refused(8, 4, 54), LINES, NO_OUT)
+ask_alone(MASK, b"mask, a day under edition 1", b"1", b"day.card", RETIRED, LINES, NO_OUT)
+ask_alone(MASK, b"mask, edition 1 over an OUT", b"1", b"day.card", RETIRED, LINES, BEFORE, before=BEFORE)
 ask_alone(MASK, b"mask, no such file", b"2", b"none", NO_FILE, LINES, BEFORE, before=BEFORE)
 ask_alone(MASK, b"mask, FILE is a folder", b"2", WORK, NO_READ, LINES, BEFORE, before=BEFORE)
 ask_alone(MASK, b"mask, no folder for OUT", b"2", b"day.card", NO_WRITE, LINES, NO_OUT, out=b"work/none/out")
@@ -285,7 +304,8 @@ ask_alone(SHEET, b"sheet, edition 3 over an OUT", b"3", b"day.card", BAD_EDITION
 ask_alone(SHEET, b"sheet, no line end", b"2", b"no-line-end.card", NO_LINE_END, HEX, NO_OUT)
 ask_alone(SHEET, b"sheet, empty", b"2", b"empty", refused(12, 1, 0), HEX, NO_OUT)
 ask_alone(SHEET, b"sheet, no edition over an OUT", b"two", b"day.card", NO_NUMBER, LINES, BEFORE, before=BEFORE)
-ask_alone(SHEET, b"sheet, a day under edition 1", b"1", b"day.card", refused(8, 4, 54), HEX, NO_OUT)
+ask_alone(SHEET, b"sheet, a day under edition 1", b"1", b"day.card", RETIRED, HEX, NO_OUT)
+ask_alone(SHEET, b"sheet, edition 1 over an OUT", b"1", b"day.card", RETIRED, LINES, BEFORE, before=BEFORE)
 ask_alone(SHEET, b"sheet, no such file", b"2", b"none", NO_FILE, LINES, BEFORE, before=BEFORE)
 ask_alone(SHEET, b"sheet, FILE is a folder", b"2", WORK, NO_READ, LINES, BEFORE, before=BEFORE)
 ask_alone(SHEET, b"sheet, no folder for OUT", b"2", b"day.card", NO_WRITE, HEX, NO_OUT, out=b"work/none/out")
@@ -296,6 +316,9 @@ ask(READ, b"sheet read, version 1", b"", b"old.sheet", OLD_NUMBERS)
 ask(READ, b"sheet read, split 0", b"", b"split-0.sheet", SPLIT_0_NUMBERS)
 ask(READ, b"sheet read, split 1 and no forecast", b"", b"no-forecast.sheet", NO_FORECAST_NUMBERS)
 ask(READ, b"sheet read, the largest numbers", b"", b"largest.sheet", LARGEST_NUMBERS)
+ask(READ, b"sheet read, version 1 with edition 1", b"", b"edition-1.sheet", OLD_1_NUMBERS)
+ask(READ, b"sheet read, split 0 with edition 1", b"", b"edition-1-split-0.sheet", SPLIT_0_1_NUMBERS)
+ask(READ, b"sheet read, split 1 with edition 1", b"", b"edition-1-split-1.sheet", DAY_1_NUMBERS)
 for size in b"51", b"53", b"80", b"82":
     ask(READ, b"sheet read, " + size + b" bytes", b"", size + b".sheet", NO_SHEET)
 ask(READ, b"sheet read, version 2 in 52 bytes", b"", b"2-in-52.sheet", NO_VERSION)
@@ -316,6 +339,10 @@ ask_alone(CONVERT, b"convert, the largest numbers", b"", b"largest.sheet", LARGE
 # from 1 to 2 and back, and from 2 with split 0 to 1 and back
 ask_there_and_back(b"convert, version 1 there", b"old.sheet", SPLIT_0_NUMBERS, SPLIT_0_IN_HEX, OLD_NUMBERS, OLD_IN_HEX)
 ask_there_and_back(b"convert, split 0 there", b"split-0.sheet", OLD_NUMBERS, OLD_IN_HEX, SPLIT_0_NUMBERS, SPLIT_0_IN_HEX)
+# the same with edition 1, and from 2 with split 1
+ask_there_and_back(b"convert, version 1 with edition 1 there", b"edition-1.sheet", SPLIT_0_1_NUMBERS, SPLIT_0_1_IN_HEX, OLD_1_NUMBERS, OLD_1_IN_HEX)
+ask_there_and_back(b"convert, split 0 with edition 1 there", b"edition-1-split-0.sheet", OLD_1_NUMBERS, OLD_1_IN_HEX, SPLIT_0_1_NUMBERS, SPLIT_0_1_IN_HEX)
+ask_alone(CONVERT, b"convert, split 1 with edition 1", b"", b"edition-1-split-1.sheet", OLD_1_NUMBERS, HEX, OLD_1_IN_HEX)
 # OUT is FILE itself
 enter(before=DATA["old.sheet"])
 ask(CONVERT, b"convert, OUT is FILE", b"", OUT, SPLIT_0_NUMBERS, OUT)

@@ -1,5 +1,5 @@
 #!/usr/bin/env python3
-"""Our own cases of masked copies, written by hand from document 01 and requests Q-7, Q-2 and Q-4 of document 02.
+"""Our own cases of masked copies, written by hand from document 01 and requests Q-7, Q-2, Q-4 and Q-11 of document 02.
 
     tests/mask_cases.py           write the files below
     tests/mask_cases.py --list    and print where in `stdout` each case stands, its name and its answer
@@ -67,9 +67,8 @@ for valid, card, masked in (
         (17, b"0012345678901234567", b"00123456*******4567"),
         (18, b"0123456789012345678", b"0123456********5678"),
         (19, b"1234567890123456789", b"123456*********6789")):
-    for edition in (2, 1):
-        case(f"{valid} valid characters, edition {edition}", carded(card), ACCEPTED, carded(masked), edition=edition)
-        case(f"AJ, {valid} valid characters, edition {edition}", aj_carded(card), ADJUSTED, aj_carded(masked), edition=edition)
+    case(f"{valid} valid characters", carded(card), ACCEPTED, carded(masked))
+    case(f"AJ, {valid} valid characters", aj_carded(card), ADJUSTED, aj_carded(masked))
 
 for name, card, masked in (
         ("stars at hidden places", b"000123456****123456", b"000123456******3456"),
@@ -93,8 +92,7 @@ for name, card, masked in (
         ("nineteen nines", b"9999999999999999999", b"999999*********9999")):
     case(name, carded(card), ACCEPTED, carded(masked))
     case("AJ, " + name, aj_carded(card), ADJUSTED, aj_carded(masked))
-for edition in (2, 1):
-    case(f"AJ, a blank card stays, edition {edition}", aj_carded(b" " * 19), ADJUSTED, aj_carded(b" " * 19), edition=edition)
+case("AJ, a blank card stays", aj_carded(b" " * 19), ADJUSTED, aj_carded(b" " * 19))
 
 # ---- Nowhere else --------------------------------------------------------------------------------------------------------------------------
 
@@ -121,13 +119,12 @@ case("a sale in each of two batches", whole(A0, L0, CV, L9, numbered(L0, 5), LAT
      whole(A0, L0, put(CV, CARD, b"000411111******1111"), L9, numbered(L0, 5), put(LATER, CARD, b"0000001234*****0123"), numbered(L9, 7),
            b"A9" b"000008" b"000008"))
 # A sale is masked whatever its launch type.
-for edition in (2, 1):
-    case(f"a forecast, edition {edition}", sale(AHEAD), FORECAST, sale(put(AHEAD, CARD, b"000411111******1111")), edition=edition)
+case("a forecast", sale(AHEAD), FORECAST, sale(put(AHEAD, CARD, b"000411111******1111")))
 case("a forecast, an advanced sale and a normal one", file_of((3, 30000, AHEAD, put(ADVANCED, CARD, b"1234567890123456789"), CV)),
      "A 20231115 000042 7 1 1 10000 250 9750 2 20000 500 19500 0 0 0 0",
      file_of((3, 30000, put(AHEAD, CARD, b"000411111******1111"), put(ADVANCED, CARD, b"123456*********6789"), put(CV, CARD, b"000411111******1111"))))
 case("L9 with the settled alone", file_of((2, 10000, AHEAD, CV)), "R 11 5 9")
-case("capture 7 under edition 2", sale(put(CV, 54, b"7")), ACCEPTED, sale(put(put(CV, 54, b"7"), CARD, b"000411111******1111")))
+case("capture 7", sale(put(CV, 54, b"7")), ACCEPTED, sale(put(put(CV, 54, b"7"), CARD, b"000411111******1111")))
 
 # Adjustments: credits and debits, before and behind sales, each masked by its own card in its own part.
 MASKED_CV = put(CV, CARD, b"000411111******1111")
@@ -142,7 +139,7 @@ case("a blank card between others", file_of((4, 13900, CV, BLANK, CREDIT, TAKEN)
      file_of((4, 13900, MASKED_CV, BLANK, MASKED_CREDIT, MASKED_TAKEN)))
 case("an adjustment in each of two batches", file_of((2, 8050, CV, TAKEN), (1, 2925, CREDIT)),
      "A 20231115 000042 9 2 0 0 0 0 1 10000 250 9750 1 2925 1 1950", file_of((2, 8050, MASKED_CV, MASKED_TAKEN), (1, 2925, MASKED_CREDIT)))
-case("AJ, capture 7 under edition 2", adjustment(put(AJ, 75, b"7")), ADJUSTED, adjustment(put(put(AJ, 75, b"7"), AJ_CARD, b"000411111******1111")))
+case("AJ, capture 7", adjustment(put(AJ, 75, b"7")), ADJUSTED, adjustment(put(put(AJ, 75, b"7"), AJ_CARD, b"000411111******1111")))
 # Digits stay in every other field of an AJ: store, NSUs, reason, account, brand and product code; and in its description, where a CV has its card.
 TOLD_AJ = AJ
 for position, text in ((3, b"1" * 15), (18, b"1" * 12), (40, b"1" * 12), (77, b"111" + b"4" * 30), (146, b"1" * 17), (182, b"1" * 6)):
@@ -155,11 +152,9 @@ case("AJ inside A0's name and a store", whole(put(A0, 29, b"AJ"), L0, put(CV, 3,
 # Accents stay, and count as bytes like any others: the card's places are where they were.
 SOUTH = "ESTAÇÕES DO SUL, Nº 310".encode("latin-1")
 ACCENTED, ACCENTED_AJ = put(CV, 3, SOUTH[:15]), put(put(AJ, 3, SOUTH[:15]), 80, SOUTH)
-for edition in (2, 1):
-    case(f"accents stay, edition {edition}", whole(put(A0, 29, SOUTH), L0, ACCENTED, L9, A9), ACCEPTED,
-         whole(put(A0, 29, SOUTH), L0, put(ACCENTED, CARD, b"000411111******1111"), L9, A9), edition=edition)
-    case(f"AJ, accents stay, edition {edition}", adjustment(ACCENTED_AJ), ADJUSTED, adjustment(put(ACCENTED_AJ, AJ_CARD, b"000411111******1111")),
-         edition=edition)
+case("accents stay", whole(put(A0, 29, SOUTH), L0, ACCENTED, L9, A9), ACCEPTED,
+     whole(put(A0, 29, SOUTH), L0, put(ACCENTED, CARD, b"000411111******1111"), L9, A9))
+case("AJ, accents stay", adjustment(ACCENTED_AJ), ADJUSTED, adjustment(put(ACCENTED_AJ, AJ_CARD, b"000411111******1111")))
 for byte in (b"\xa0", b"\xad", b"\xff"):
     fields = put(put(put(put(CV, 3, byte * 15), 165, byte * 11), 188, byte * 3), 191, byte * 3)
     case(f"byte {byte[0]} all over the AN fields", sale(fields), ACCEPTED, sale(put(fields, CARD, b"000411111******1111")))
@@ -175,22 +170,26 @@ case("4096: what is past the file stays", FIVE, ACCEPTED, MASKED_FIVE, size=4096
 case("2: one shorter", FIVE, "R 2 0 0", size=343)
 case("2: no output", FIVE, "R 2 0 0", size=0)
 case("2: one byte", FIVE, "R 2 0 0", size=1)
-case("2, edition 1", FIVE, "R 2 0 0", size=343, edition=1)
 case("2 before 12: a file that ends too early", whole(A0, L0, CV), "R 2 0 0", size=297)
 case("2 before 10: a file whose net is 9751", sale(put(CV, 77, b"00000009751")), "R 2 0 0", size=343)
 case("AJ, 2: one shorter", adjustment(AJ), "R 2 0 0", size=337)
 case("AJ, one longer: the last byte stays", adjustment(AJ), ADJUSTED, aj_carded(b"000411111******1111"), size=339)
 case("1 before 2: edition 0", FIVE, "R 1 0 0", size=343, edition=0)
 case("1 before 2: edition 3", FIVE, "R 1 0 0", size=0, edition=3)
+case("22 before 2: one shorter", FIVE, "R 22 0 0", size=343, edition=1)
+case("22 before 2: no output", FIVE, "R 22 0 0", size=0, edition=1)
+case("22 before 2: a file that ends too early", whole(A0, L0, CV), "R 22 0 0", size=297, edition=1)
 
 # ---- A refused file leaves the output as it was -----------------------------------------------------------------------------------------------
 
 for size in (344, 600):
     for edition in (0, 3, 255):
         case("1: edition %d, output %d" % (edition, size), FIVE, "R 1 0 0", size=size, edition=edition)
+    case("22: edition 1, output %d" % size, FIVE, "R 22 0 0", size=size, edition=1)
+    case("22: capture 7 under edition 1, output %d" % size, sale(put(CV, 54, b"7")), "R 22 0 0", size=size, edition=1)
     case("10: net 9751, output %d" % size, sale(put(CV, 77, b"00000009751")), "R 10 3 77", size=size)
     case("9: CV numbered 000004, output %d" % size, sale(put(CV, 194, b"000004")), "R 9 3 194", size=size)
-    case("8: capture 7 under edition 1, output %d" % size, sale(put(CV, 54, b"7")), "R 8 3 54", size=size, edition=1)
+    case("8: capture 0, output %d" % size, sale(put(CV, 54, b"0")), "R 8 3 54", size=size)
     case("7: a blank in the card, output %d" % size, carded(b"0004111 11111111111"), "R 7 3 88", size=size)
     case("11: A9's count, output %d" % size, whole(A0, L0, CV, L9, b"A9" b"000004" b"000005"), "R 11 5 3", size=size)
     case("4: an unknown kind, output %d" % size, sale(put(CV, 1, b"CP")), "R 4 3 1", size=size)
@@ -211,6 +210,12 @@ case("12: an empty file, ten bytes of output", b"", "R 12 1 0", size=10)
 case("13: one byte after the end", FIVE + b"x", "R 13 6 0")
 case("13: a second file", FIVE + FIVE, "R 13 6 0")
 case("13: the output too short for the bytes after the end", FIVE + b"x", "R 2 0 0", size=344)
+case("22 before 10: net 9751", sale(put(CV, 77, b"00000009751")), "R 22 0 0", edition=1)
+case("22 before 4: an unknown kind", sale(put(CV, 1, b"CP")), "R 22 0 0", edition=1)
+case("22 before 3: no line end", FIVE[:-2], "R 22 0 0", edition=1)
+case("22 before 12: an empty file, no output", b"", "R 22 0 0", size=0, edition=1)
+case("22 before 12: an empty file, ten bytes of output", b"", "R 22 0 0", size=10, edition=1)
+case("AJ, 22: edition 1", adjustment(AJ), "R 22 0 0", edition=1)
 
 # ---- Writing them --------------------------------------------------------------------------------------------------------------------------
 

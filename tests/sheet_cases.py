@@ -1,5 +1,5 @@
 #!/usr/bin/env python3
-"""Our own cases of day sheets, written by hand from document 01 and requests Q-4 and Q-5 of document 02.
+"""Our own cases of day sheets, written by hand from document 01 and requests Q-4, Q-5 and Q-11 of document 02.
 
     tests/sheet_cases.py           write the files below
     tests/sheet_cases.py --list    and print where in `stdout` each case stands, its name and its answer
@@ -122,8 +122,10 @@ for v, made, other, end in ((1, one, "0002", ""), (2, two, "0001", " 1 2 5000 10
         read(f"16: {v}, version of bytes {version}", made(version=version), "R 16 0 0")
     read(f"16 before 17: {v}, version 3 and edition 3", made(version="0003", edition="03"), "R 16 0 0")
     read(f"16 before 17: {v}, version 0 and a letter in the date", made(version="0000", date=b"2023111x".hex()), "R 16 0 0")
-    # 17: edition
+    # 17: edition; 1 is retired, and its sheets are read as before
     read(f"{v}, edition 1", made(edition="01"), f"A {v} 1 20231115 000042 1 1 10000 250 9750{end}")
+    read(f"{v}, edition 1, batches 999999", made(edition="01", batches=MOST), f"A {v} 1 20231115 000042 999999 1 10000 250 9750{end}")
+    read(f"17: {v}, edition 1, batches 1000000", made(edition="01", batches=MORE), "R 17 0 0")
     for edition in ("00", "03", "31", "32", "ff"):
         read(f"17: {v}, edition of byte {edition}", made(edition=edition), "R 17 0 0")
     # 17: date and digits
@@ -169,6 +171,7 @@ read_sales("split 0 without a forecast", two(split="00", **NONE_FORECAST), "1 10
 read_sales("split 1 without a forecast", two(**NONE_FORECAST), "1 10000 250 9750 1 0 0 0 0")
 read_sales("split 0 and no sale at all", two(split="00", **NONE_SETTLED, **NONE_FORECAST), "0 0 0 0 0 0 0 0 0")
 read("split 0 under edition 1", two(edition="01", split="00", **NONE_FORECAST), "A 2 1 20231115 000042 1 1 10000 250 9750 0 0 0 0 0")
+read("17: split 0 and a forecast under edition 1", two(edition="01", split="00"), "R 17 0 0")
 for split in ("02", "03", "30", "31", "80", "81", "ff"):
     read(f"17: split of byte {split}", two(split=split), "R 17 0 0")
     read(f"17: split of byte {split}, without a forecast", two(split=split, **NONE_FORECAST), "R 17 0 0")
@@ -295,19 +298,26 @@ write_2("2: 1 byte of output", 1, {}, "R 2 0 0")
 
 # What both versions begin with
 for write, made, width in ((write_1, one, 52), (write_2, two, 81)):
-    write("edition 1", width + 8, dict(edition=1), "A", made(edition="01"))
     for day in (20000101, 20240229, 20991231):
         write(f"date {day}", width, dict(date=day), "A", made(date=str(day).encode().hex()))
     write("movement 0", width, dict(movement=0), "A", made(movement=b"000000".hex()))
     write("movement 999999", width, dict(movement=999999), "A", made(movement=b"999999".hex()))
     write("batches 0", width, dict(batches=0), "A", made(batches=NO))
     write("batches 999999", width, dict(batches=999999), "A", made(batches=MOST))
+    # 22: edition 1 is retired; before 17, and before 2
+    for room in ROOMS:
+        write(f"22: edition 1, {room} bytes of output", room, dict(edition=1), "R 22 0 0")
+    for room in (0, width - 1, width):
+        write(f"22 before 17: edition 1 and net one more, {room} bytes of output", room, dict(edition=1, net=9751), "R 22 0 0")
+    write("22 before 17: edition 1 and date 20230229", width, dict(edition=1, date=20230229), "R 22 0 0")
     # 17, before 2
     for room in ROOMS:
-        for edition in (0, 3):
-            write(f"17: edition {edition}, {room} bytes of output", room, dict(edition=edition), "R 17 0 0")
+        write(f"17: edition 3, {room} bytes of output", room, dict(edition=3), "R 17 0 0")
         write(f"17: date 20230229, {room} bytes of output", room, dict(date=20230229), "R 17 0 0")
         write(f"17: net one more, {room} bytes of output", room, dict(net=9751), "R 17 0 0")
+    write("17: edition 0", width, dict(edition=0), "R 17 0 0")
+    write("17: edition 0, no output", 0, dict(edition=0), "R 17 0 0")
+    write("17: edition 257 is not 1", width, dict(edition=257), "R 17 0 0")
     write("17: edition 258 is not 2", width, dict(edition=258), "R 17 0 0")
     write("17: edition 2^32 + 2 is not 2", width, dict(edition=4294967298), "R 17 0 0")
     for day in (0, 19991231, 21000101, 20231301, 20230431, 20231100, 120231115, 1020231115, 18446744073709551615):
@@ -328,8 +338,8 @@ for write, made, width in ((write_1, one, 52), (write_2, two, 81)):
     write("17: a sum that agrees only modulo 2^64", width, dict(gross=0, discount=1, net=18446744073709551615), "R 17 0 0")
 
 # The limits of version 1
-write_1("a sheet of nothing", 60, dict(edition=1, date=20000101, movement=0, batches=0, **NONE_SETTLED_NUMBERS), "A",
-        one(edition="01", date=b"20000101".hex(), movement=b"000000".hex(), batches=NO, **NONE_SETTLED))
+write_1("a sheet of nothing", 60, dict(date=20000101, movement=0, batches=0, **NONE_SETTLED_NUMBERS), "A",
+        one(date=b"20000101".hex(), movement=b"000000".hex(), batches=NO, **NONE_SETTLED))
 write_1("sales 999999", 52, dict(sales=999999), "A", one(sales=MOST))
 write_1("gross and net 10^17 - 1", 52, dict(gross=99999999999999999, discount=0, net=99999999999999999), "A",
         one(gross=TOP, discount=NOTHING, net=TOP))
@@ -337,12 +347,13 @@ write_1("gross and discount 10^17 - 1", 52, dict(gross=99999999999999999, discou
         one(gross=TOP, discount=TOP, net=NOTHING))
 
 # The split
-write_2("a sheet of nothing, split 1", 90, dict(edition=1, date=20000101, movement=0, batches=0, **NONE_SETTLED_NUMBERS, **NONE_FORECAST_NUMBERS), "A",
-        two(edition="01", date=b"20000101".hex(), movement=b"000000".hex(), batches=NO, **NONE_SETTLED, **NONE_FORECAST))
+write_2("a sheet of nothing, split 1", 90, dict(date=20000101, movement=0, batches=0, **NONE_SETTLED_NUMBERS, **NONE_FORECAST_NUMBERS), "A",
+        two(date=b"20000101".hex(), movement=b"000000".hex(), batches=NO, **NONE_SETTLED, **NONE_FORECAST))
 write_2("split 1 without a forecast", 81, NONE_FORECAST_NUMBERS, "A", two(**NONE_FORECAST))
 write_2("split 0 without a forecast", 81, dict(split=0, **NONE_FORECAST_NUMBERS), "A", two(split="00", **NONE_FORECAST))
-write_2("split 0 without a forecast, edition 1", 81, dict(edition=1, split=0, **NONE_FORECAST_NUMBERS), "A",
-        two(edition="01", split="00", **NONE_FORECAST))
+write_2("22: split 0 without a forecast, edition 1, which only conversion writes", 81, dict(edition=1, split=0, **NONE_FORECAST_NUMBERS), "R 22 0 0")
+write_2("22 before 17: edition 1 and split 2", 81, dict(edition=1, split=2), "R 22 0 0")
+write_2("22 before 17: edition 1, split 0 and a forecast", 81, dict(edition=1, split=0), "R 22 0 0")
 write_2("a forecast and nothing settled", 81, NONE_SETTLED_NUMBERS, "A", two(**NONE_SETTLED))
 write_2("a forecast count alone", 81, {**NONE_FORECAST_NUMBERS, "fsales": 1}, "A", two(**{**NONE_FORECAST, "fsales": SINGLE}))
 for split in (2, 255, 256, 257, 4294967296, 4294967297, 18446744073709551615):
@@ -406,7 +417,8 @@ def convert(name, size, content, line, front=b""):
     CONVERT.append((name, size, content, line, front))
 
 
-# Version 1 becomes version 2 with split 0, everything settled; version 2 becomes version 1 with both added: 3 sales, 15000 = 350 + 14650.
+# Version 1 becomes version 2 with split 0, everything settled; version 2 becomes version 1 with both added: 3 sales, 15000 = 350 + 14650. Sheets with
+# edition 1, which is retired, are converted as before.
 NOT_KNOWN = two(split="00", **NONE_FORECAST)
 BOTH = dict(sales="00000003", gross="0000000000003a98", discount="000000000000015e", net="000000000000393a")
 for room in ROOMS:
@@ -424,13 +436,20 @@ for room in ROOMS:
 # There and back: the input of each is the output of the one before it
 convert("1 to 2", 81, one(**BOTH), "A", two(split="00", **BOTH, **NONE_FORECAST))
 convert("and back", 52, two(split="00", **BOTH, **NONE_FORECAST), "A", one(**BOTH))
-convert("2 with split 0 to 1, edition 1", 52, two(edition="01", split="00", **NONE_FORECAST), "A", one(edition="01"))
-convert("and back, edition 1", 81, one(edition="01"), "A", two(edition="01", split="00", **NONE_FORECAST))
 convert("2 with split 1 and no forecast to 1", 52, two(**NONE_FORECAST), "A", one())
 convert("and back it has split 0", 81, one(), "A", NOT_KNOWN)
+convert("2 with split 0 to 1, edition 1", 52, two(edition="01", split="00", **NONE_FORECAST), "A", one(edition="01"))
+convert("and back, edition 1", 81, one(edition="01"), "A", two(edition="01", split="00", **NONE_FORECAST))
+convert("2 with split 1 to 1, edition 1", 52, two(edition="01"), "A", one(edition="01", **BOTH))
+convert("and back it has split 0, edition 1", 81, one(edition="01", **BOTH), "A", two(edition="01", split="00", **BOTH, **NONE_FORECAST))
+convert("and to 1 again, edition 1", 52, two(edition="01", split="00", **BOTH, **NONE_FORECAST), "A", one(edition="01", **BOTH))
+
+# 2, and not 22, where the output is too short for edition 1
+convert("2: 1 to 2, edition 1", 80, one(edition="01"), "R 2 0 0")
+convert("2: 2 to 1, edition 1", 51, two(edition="01"), "R 2 0 0")
+convert("2: 2 with split 0 to 1, edition 1", 51, two(edition="01", split="00", **NONE_FORECAST), "R 2 0 0")
 
 # What is carried over
-convert("2 with split 1 to 1, edition 1", 52, two(edition="01"), "A", one(edition="01", **BOTH))
 convert("a forecast and nothing settled", 52, two(**NONE_SETTLED), "A",
         one(sales="00000002", gross="0000000000001388", discount="0000000000000064", net="0000000000001324"))
 convert("nothing, 1 to 2", 82, one(edition="01", date=b"20000101".hex(), movement=b"000000".hex(), batches=NO, **NONE_SETTLED), "A",
@@ -459,6 +478,9 @@ convert("2 at the limits, all forecast", 52, two(**NONE_SETTLED, fsales=MOST, fg
 convert("both sets at the limits together, net", 52,
         two(sales=HALF, gross=HALF_TOP, discount=NOTHING, net=HALF_TOP, fsales=OTHER_HALF, fgross=OTHER_HALF_TOP, fdiscount=NOTHING,
             fnet=OTHER_HALF_TOP), "A", one(sales=MOST, gross=TOP, discount=NOTHING, net=TOP))
+convert("both sets at the limits together, net, edition 1", 52,
+        two(edition="01", sales=HALF, gross=HALF_TOP, discount=NOTHING, net=HALF_TOP, fsales=OTHER_HALF, fgross=OTHER_HALF_TOP, fdiscount=NOTHING,
+            fnet=OTHER_HALF_TOP), "A", one(edition="01", sales=MOST, gross=TOP, discount=NOTHING, net=TOP))
 convert("both sets at the limits together, discount", 52,
         two(sales=LESS, gross=BELOW_TOP, discount=BELOW_TOP, net=NOTHING, fsales=SINGLE, fgross=UNIT, fdiscount=UNIT, fnet=NOTHING), "A",
         one(sales=MOST, gross=TOP, discount=TOP, net=NOTHING))
@@ -489,6 +511,8 @@ convert("17: date 20230229, version 2", 52, two(date=b"20230229".hex()), "R 17 0
 convert("17: net 10^17 - 1 and 1", 52, two(gross=TOP, discount=NOTHING, net=TOP, fgross=UNIT, fdiscount=NOTHING, fnet=UNIT), "R 17 0 0")
 convert("17: gross one more, forecast gross one less: both summed agree", 52, two(gross="0000000000002711", fgross="0000000000001387"), "R 17 0 0")
 convert("17: split 0 and a forecast count alone", 52, two(split="00", **{**NONE_FORECAST, "fsales": SINGLE}), "R 17 0 0")
+convert("17: net one more, edition 1", 81, one(edition="01", net="0000000000002617"), "R 17 0 0")
+convert("17: split 0 and a forecast, edition 1", 52, two(edition="01", split="00"), "R 17 0 0")
 
 # ---- The sheets of a card file -------------------------------------------------------------------------------------------------------------
 
@@ -505,10 +529,7 @@ OF_FILE = [
     ("an output of 81; no forecast, and split 1 all the same", 2, 81, FIVE, ACCEPTED, SETTLED),
     ("a longer output keeps its rest", 2, 82, FIVE, ACCEPTED, SETTLED),
     ("an output of 104", 2, 104, FIVE, ACCEPTED, SETTLED),
-    ("the sheet carries the edition stated", 1, 81, FIVE, ACCEPTED, two(edition="01", **NONE_FORECAST)),
     ("a forecast alone", 2, 81, sale(AHEAD), FORECAST, AHEAD_ONLY),
-    ("a forecast alone, edition 1", 1, 82, sale(AHEAD), FORECAST,
-     two(edition="01", **NONE_SETTLED, fsales=SINGLE, fgross="0000000000002710", fdiscount="00000000000000fa", fnet="0000000000002616")),
     ("a forecast of 5000 and a sale that is paid", 2, 81, file_of((2, 15000, AHEAD_5000, CV)),
      "A 20231115 000042 6 1 1 5000 100 4900 1 10000 250 9750 0 0 0 0",
      two(fsales=SINGLE, fgross="0000000000001388", fdiscount="0000000000000064", fnet="0000000000001324")),
@@ -537,6 +558,11 @@ OF_FILE = [
     ("no output", 2, 0, FIVE, "R 2 0 0", b""),
     ("1 before 2", 3, 80, FIVE, "R 1 0 0", b""),
     ("edition 0", 0, 81, FIVE, "R 1 0 0", b""),
+    ("edition 1", 1, 81, FIVE, "R 22 0 0", b""),
+    ("edition 1, capture 7", 1, 82, sale(put(CV, 54, b"7")), "R 22 0 0", b""),
+    ("22 before 2", 1, 80, FIVE, "R 22 0 0", b""),
+    ("22 before 2, no output and an empty file", 1, 0, b"", "R 22 0 0", b""),
+    ("22 before the file's own refusal", 1, 81, FIVE[:-16], "R 22 0 0", b""),
     ("2 before the file's own refusal", 2, 80, b"", "R 2 0 0", b""),
     ("an empty file", 2, 81, b"", "R 12 1 0", b""),
     ("a file without its A9", 2, 82, FIVE[:-16], "R 12 5 0", b""),

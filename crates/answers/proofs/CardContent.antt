@@ -20,13 +20,13 @@ unfolding firstBroken allowed holdsOnly valueFrom sameBytes hasByte oneByteOf da
 card-content κ =
     record {
       is-in-set = λ κs a r r' s s' p q. equal p q;
-      set-capture-1 = (refl, told bit refl);
-      set-capture-2 = (refl, told bit refl);
+      set-capture-7 = (refl, told bit refl);
+      set-capture-0 = (refl, told bit refl);
+      set-capture-row = (refl, told bit refl);
       set-version = (refl, told bit refl);
       set-currency = (refl, told bit refl);
       set-adjustment-8 = (refl, told bit refl);
-      set-adjustment-1 = (refl, told bit refl);
-      set-adjustment-2 = (refl, told bit refl);
+      set-adjustment-7 = (refl, told bit refl);
       set-adjustment-type = (refl, told bit refl);
       fault-of = λ κs a r r' s s' p q. equal p q;
       fault-of-set = (refl, told faultNumber refl);

@@ -20,7 +20,6 @@ use Rattle.card_run.specs.Running.{closedAt, lateAt}
 use Rattle.card_step.specs.Rules.{joinedAt, rulesOf}
 use Rattle.card_step.specs.Behind.{behind}
 use Rattle.card_step.specs.Step.{behindOrRefused, tookAt}
-use Rattle.edition.specs.Known.{known}
 use Rattle.card_file.specs.Room.{answerWithRoom}
 use Rattle.lines.specs.Lines.{inFront, cut, joined, endsInCr, withoutLast}
 use Rattle.card_file.specs.CardFile.{unendedAt, linesOf, endOf}
@@ -34,7 +33,7 @@ use Rattle.answers.specs.CardFile.{CardFile}
 use Rattle.answers.proofs.Told.{equal, told}
 
 pub card-file : (κ : Lft) → CardFile κ
-unfolding known answerWithRoom firstBroken allowed holdsOnly valueFrom sameBytes hasByte oneByteOf daysIn isDay isTime whenRules wellFormed inSet dayOrZerosRules cardOrBlanksRules contentRules tableRules recordRules joinedRules adjustmentRules kindNamed rightReading judgedAs readFound answerAt joinedAt rulesOf behind behindOrRefused tookAt closedAt inFront cut joined endsInCr withoutLast unendedAt linesOf endOf clippedWith heldBefore behindEnd withHeld lateAt
+unfolding answerWithRoom firstBroken allowed holdsOnly valueFrom sameBytes hasByte oneByteOf daysIn isDay isTime whenRules wellFormed inSet dayOrZerosRules cardOrBlanksRules contentRules tableRules recordRules joinedRules adjustmentRules kindNamed rightReading judgedAs readFound answerAt joinedAt rulesOf behind behindOrRefused tookAt closedAt inFront cut joined endsInCr withoutLast unendedAt linesOf endOf clippedWith heldBefore behindEnd withHeld lateAt
 card-file κ =
     record {
       took = λ κs a r r' s s' p q. equal p q;
@@ -75,6 +74,7 @@ card-file κ =
       check-first-record = (refl, told answerRead refl);
       check-258 = (refl, told answerRead refl);
       check-version = (refl, told answerRead refl);
+      check-capture = (refl, told answerRead refl);
       check-behind-a9 = (refl, told answerRead refl);
       check-accents = (refl, told answerRead refl);
       check-159 = (refl, told answerRead refl);
@@ -83,10 +83,12 @@ card-file κ =
       check-before-l0 = (refl, told answerRead refl);
       with-room = λ κs a r r' s s' p q. equal p q;
       with-room-edition = (refl, told answerRead refl);
+      with-room-retired = (refl, told answerRead refl);
       with-room-first = (refl, told answerRead refl);
       with-room-exact = (refl, told answerRead refl);
       stream-open = λ κs a r r' s s' p q. equal p q;
       stream-open-3 = (refl, told (λ s. stageRead (s .state .stage)) refl);
+      stream-open-1 = (refl, told (λ s. stageRead (s .state .stage)) refl);
       stream-open-byte = (refl, told (λ s. s .held .length) refl);
       stream-take = λ κs a r r' s s' p q. equal p q;
       stream-take-half = (refl, told (λ s. stageRead (s .state .stage)) refl);

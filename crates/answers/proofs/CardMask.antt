@@ -15,7 +15,6 @@ use Rattle.card_sale.specs.Cv.{joinedRules}
 use Rattle.card_record.specs.Kind.{kindNamed}
 use Rattle.card_record.specs.Reading.{rightReading, judgedAs, readFound}
 use Rattle.card_run.specs.Answer.{answerAt}
-use Rattle.edition.specs.Known.{known}
 use Rattle.card_run.specs.Running.{closedAt, lateAt}
 use Rattle.card_step.specs.Rules.{joinedAt, rulesOf}
 use Rattle.card_step.specs.Behind.{behind}
@@ -43,7 +42,7 @@ use Rattle.answers.specs.CardMask.{CardMask}
 use Rattle.answers.proofs.Told.{equal, told, same-part}
 
 pub card-mask : (κ : Lft) → CardMask κ
-unfolding known firstBroken allowed holdsOnly valueFrom sameBytes hasByte oneByteOf daysIn isDay isTime whenRules wellFormed inSet contentRules tableRules recordRules joinedRules kindNamed rightReading judgedAs readFound answerAt joinedAt rulesOf behind behindOrRefused tookAt closedAt inFront cut joined endsInCr withoutLast unendedAt linesOf endOf rejoined leadingZeros hiddenPlaces starWhere cardPartFound maskedAt answerWithRoom maskedInto refusalOf partAs placeAs inBase inPlaces sheetRow bytesOf converted sheetInto lateAt
+unfolding firstBroken allowed holdsOnly valueFrom sameBytes hasByte oneByteOf daysIn isDay isTime whenRules wellFormed inSet contentRules tableRules recordRules joinedRules kindNamed rightReading judgedAs readFound answerAt joinedAt rulesOf behind behindOrRefused tookAt closedAt inFront cut joined endsInCr withoutLast unendedAt linesOf endOf rejoined leadingZeros hiddenPlaces starWhere cardPartFound maskedAt answerWithRoom maskedInto refusalOf partAs placeAs inBase inPlaces sheetRow bytesOf converted sheetInto lateAt
 card-mask κ =
     record {
       mask-lines = λ κs a r r' s s' p q. (equal (p .counts) (q .counts), equal (p .leaves) (q .leaves));
@@ -57,6 +56,8 @@ card-mask κ =
       mask-refused = (record { answers = refl; leaves = refl }, λ p. told (λ s. getD s 0 0) refl (p .leaves));
       mask-short = (record { answers = refl; leaves = refl }, λ p. told (λ s. getD s 0 0) refl (p .leaves));
       mask-order = (record { answers = refl; leaves = refl }, λ p. told answerRead refl (p .answers));
+      mask-order-retired = (record { answers = refl; leaves = refl }, λ p. told answerRead refl (p .answers));
+      mask-retired = (record { answers = refl; leaves = refl }, λ p. told answerRead refl (p .answers));
       field-answer = λ κs a r r' s s' p q. equal p q;
       field-card = (refl, told fieldRead refl);
       field-longer = (refl, told fieldRead refl);
@@ -76,6 +77,8 @@ card-mask κ =
       sheet-version = (refl, told (λ s. getD (sheetRow s) 0 0) refl);
       sheet-of = λ κs a r r' s s' p q. (equal (p .answers) (q .answers), equal (p .leaves) (q .leaves));
       sheet-of-edition = (record { answers = refl; leaves = refl }, λ p. told (λ s. getD s 5 0) refl (p .leaves));
+      sheet-of-retired = (record { answers = refl; leaves = refl }, λ p. told answerRead refl (p .answers));
+      sheet-of-order = (record { answers = refl; leaves = refl }, λ p. told answerRead refl (p .answers));
       sheet-of-past = (record { answers = refl; leaves = refl }, λ p. told (λ s. getD s 81 0) refl (p .leaves));
       sheet-of-refused = (record { answers = refl; leaves = refl }, λ p. told (λ s. getD s 0 0) refl (p .leaves));
       sheet-of-short = (record { answers = refl; leaves = refl }, λ p. told answerRead refl (p .answers));

@@ -1,6 +1,6 @@
 -- The contracts of the running state of a card file are held to one answer, and rule wrong ones out, by computation.
 use mathlib.Core.Path.{refl}
-use Rattle.edition.specs.Known.{known}
+use Rattle.refusal.specs.Rules.{firstBroken}
 use Rattle.card_run.specs.Answer.{answerAt}
 use Rattle.card_run.specs.Running.{lateAt, closedAt}
 use Rattle.answers.proofs.Observed.{stageRead, refusedRecord, answerRead}
@@ -8,12 +8,14 @@ use Rattle.answers.specs.CardRun.{CardRun}
 use Rattle.answers.proofs.Told.{equal, told, bit}
 
 pub card-run : CardRun
-unfolding known answerAt lateAt closedAt
+unfolding firstBroken answerAt lateAt closedAt
 card-run =
     record {
       opens = λ κs a r r' s s' p q. equal p q;
       open-258 = (refl, told (λ st. stageRead (st .stage)) refl);
       open-1 = (refl, told (λ st. stageRead (st .stage)) refl);
+      open-unknown = (refl, told (λ st. stageRead (st .stage)) refl);
+      open-3 = (refl, told (λ st. stageRead (st .stage)) refl);
       refuses = λ κs a r r' s s' p q. equal p q;
       refused-before = (refl, told (λ st. refusedRecord (st .stage)) refl);
       refused-forgotten = (refl, told (λ st. stageRead (st .stage)) refl);

@@ -20,7 +20,6 @@ use Rattle.card_record.specs.CardPart.{cardPartFound}
 use Rattle.card_record.specs.Kind.{kindNamed}
 use Rattle.card_record.specs.Reading.{rightReading, judgedAs, readFound}
 use Rattle.card_run.specs.Answer.{answerAt, cardFileRow}
-use Rattle.edition.specs.Known.{known}
 use Rattle.card_run.specs.Running.{closedAt, lateAt}
 use Rattle.card_step.specs.Rules.{joinedAt, rulesOf}
 use Rattle.card_step.specs.Behind.{behind}
@@ -49,13 +48,14 @@ use Rattle.answers.proofs.Told.{told, bit}
 use Rattle.answers.proofs.Observed.{payrollAnswerRead}
 
 pub definitions : Definitions
-unfolding known firstBroken allowed holdsOnly firstStray valueFrom sameBytes hasByte oneByteOf daysIn isDay isTime whenRules wellFormed leadingZeros hiddenPlaces inFront cut joined endsInCr withoutLast inSet dayOrZerosRules cardOrBlanksRules contentRules tableRules recordRules joinedRules adjustmentRules cardPartFound kindNamed rightReading judgedAs readFound answerAt cardFileRow joinedAt rulesOf behind behindOrRefused tookAt closedAt unendedAt linesOf endOf numberRules strayAt segmentNamed payrollKindNamed readAs payrollReadFound foundRules dueRules payrollRunRules behindDetailAs payrollBehind payrollBehindOrRefused payrollTookAt payrollUnendedAt payrollLinesOf endedOf cutShortOf endAt hiddenAt hiddenInPieces lateAt
+unfolding firstBroken allowed holdsOnly firstStray valueFrom sameBytes hasByte oneByteOf daysIn isDay isTime whenRules wellFormed leadingZeros hiddenPlaces inFront cut joined endsInCr withoutLast inSet dayOrZerosRules cardOrBlanksRules contentRules tableRules recordRules joinedRules adjustmentRules cardPartFound kindNamed rightReading judgedAs readFound answerAt cardFileRow joinedAt rulesOf behind behindOrRefused tookAt closedAt unendedAt linesOf endOf numberRules strayAt segmentNamed payrollKindNamed readAs payrollReadFound foundRules dueRules payrollRunRules behindDetailAs payrollBehind payrollBehindOrRefused payrollTookAt payrollUnendedAt payrollLinesOf endedOf cutShortOf endAt hiddenAt hiddenInPieces lateAt
 definitions =
     record {
       kept-other-card = kept-means-kept 2 _ .0 (record { numbers = _; answer = refl });
       kept-first-instalment = kept-means-kept 2 _ .0 (record { numbers = _; answer = refl });
       kept-disagreeing = λ kept. told (λ a. bit (isAccepted a)) refl (kept-means-kept 2 _ .1 kept .answer);
       kept-by-net = λ kept. told (λ a. bit (isAccepted a)) refl (kept-means-kept 2 _ .1 kept .answer);
+      kept-retired = λ kept. told (λ a. bit (isAccepted a)) refl (kept-means-kept 1 _ .1 kept .answer);
       kept-accents = kept-means-kept 2 _ .0 (record { numbers = _; answer = refl });
       kept-159 = λ kept. told (λ a. bit (isAccepted a)) refl (kept-means-kept 2 _ .1 kept .answer);
       kept-adjusted = kept-means-kept 2 _ .0 (record { numbers = _; answer = refl });

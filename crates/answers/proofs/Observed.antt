@@ -68,6 +68,7 @@ use Rattle.payroll_stream.specs.declared.Progress.the-variants.{GoingOn as goin
 use Rattle.day_sheet.specs.declared.layout.Version.{Version}
 use Rattle.day_sheet.specs.declared.layout.Version.the-variants.{One, Two}
 use Rattle.sheet_numbers.specs.declared.sheet.Sheet.the-variants.{Version1, Version2}
+use Rattle.sheet_numbers.specs.Edition.{sheetEdition}
 use Rattle.day_sheet.specs.declared.reader.SheetRead.{SheetRead}
 use Rattle.day_sheet.specs.declared.reader.SheetRead.the-variants.{Read, Refused as unread}
 use Rattle.day_sheet.specs.declared.writer.SheetWritten.{SheetWritten}
@@ -257,6 +258,11 @@ abbrev pub settledRead : SheetRead → ℕ
 settledRead (Read (Version1 heading totals)) = totals .sales
 settledRead (Read (Version2 heading split sets)) = sets .settled .sales
 settledRead (unread r) = 0
+
+-- the edition of a sheet that was read
+abbrev pub editionOfRead : SheetRead → ℕ
+editionOfRead (Read s) = sheetEdition s
+editionOfRead (unread r) = 0
 
 abbrev pub sheetWritten : SheetWritten → ℕ
 sheetWritten Written = 0

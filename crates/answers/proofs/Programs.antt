@@ -7,6 +7,8 @@ use native.Mathlib.Omega.{arith}
 use lib.IntN.{ℤ}
 use borrow.Author.Tests.{lt-ltb}
 use base.Fml.{Lft}
+use Rattle.refusal.specs.declared.Cause.the-variants.{EditionUnknown, EditionRetired}
+use Rattle.refusal.specs.Nowhere.{nowhere}
 use Rattle.refusal.specs.Rules.{firstBroken}
 use Rattle.text.specs.Alphabet.{allowed, holdsOnly, firstStray}
 use Rattle.text.specs.Number.{valueFrom}
@@ -22,8 +24,9 @@ use Rattle.card_content.specs.Field.{tableRules, recordRules}
 use Rattle.card_sale.specs.Cv.{joinedRules}
 use Rattle.card_record.specs.Kind.{kindNamed}
 use Rattle.card_record.specs.Reading.{rightReading, judgedAs, readFound}
-use Rattle.card_run.specs.Answer.{answerAt, cardFileRow}
-use Rattle.edition.specs.Known.{known}
+use Rattle.card_run.specs.declared.answer.CardAnswer.{CardAnswer}
+use Rattle.card_run.specs.declared.answer.CardAnswer.the-variants.{Refused}
+use Rattle.card_run.specs.Answer.{answerAt}
 use Rattle.card_run.specs.Running.{closedAt, lateAt}
 use Rattle.card_step.specs.Rules.{joinedAt, rulesOf}
 use Rattle.card_step.specs.Behind.{behind}
@@ -57,6 +60,7 @@ use Rattle.sheet_numbers.specs.Converted.{converted}
 use Rattle.day_sheet.proofs.RoundTrip.{read-allowed}
 use Rattle.sheet_numbers.proofs.Conversions.{converted-allowed}
 use Rattle.sheet_program.specs.SheetRead.{convertedRead}
+use Rattle.edition.proofs.Editions.{unknown-fault, retired-fault}
 use Rattle.card_kept.proofs.FirstFault.{edition-first}
 use Rattle.wording.specs.Number.{digitsWithin}
 use Rattle.wording.specs.Line.{wordOf, lineOf, refusedLine}
@@ -64,11 +68,10 @@ use Rattle.card_program.specs.Verdict.{ledLine, totalsText, setsText, acceptedT
 use Rattle.card_program.specs.Outcome.{outcomeAt}
 use Rattle.payroll_program.specs.Outcome.{outcomeAt as payrollOutcomeAt}
 use Rattle.answers.specs.DaySheet.{sheetOf, bothSets}
-use Rattle.answers.specs.CardRun.{oneSale, accepted}
 use Rattle.answers.specs.Programs.{Programs, madeUp}
 use Rattle.answers.specs.Samples.{cardFile, payrollFile}
 use Rattle.answers.proofs.Told.{equal, told, bit}
-use Rattle.answers.proofs.Observed.{argumentRead, cardOutcomeRead, outcomeRead, sheetKind, splitRead}
+use Rattle.answers.proofs.Observed.{argumentRead, answerRead, cardOutcomeRead, outcomeRead, sheetKind, splitRead}
 
 -- no file has totals that disagree
 disagreeing : (bytes : List ℕ) → madeUp ≡ checkOf 2 bytes → ⊥
@@ -76,10 +79,12 @@ disagreeing bytes e =
     let kept = kept-means-kept 2 bytes .0 (record { numbers = _; answer = sym e }) in
     told (λ n. n) refl (plain-numbers 2 bytes _ (sym e) kept .settled .agree)
 
--- under edition 3 no file is accepted
-of-edition-3 : (bytes : List ℕ) → accepted 5 1 oneSale ≡ checkOf 3 bytes → ⊥
-unfolding known cardFileRow
-of-edition-3 bytes e = told (λ row. bit (row .accepted)) refl (ap cardFileRow e ∙ edition-first 3 refl bytes)
+-- what every file gets under edition 3, and under edition 1
+under-3 : {x : CardAnswer} (bytes : List ℕ) → x ≡ checkOf 3 bytes → x ≡ Refused (nowhere EditionUnknown)
+under-3 bytes e = e ∙ edition-first 3 (unknown-fault 3 refl) bytes
+
+under-1 : {x : CardAnswer} (bytes : List ℕ) → x ≡ checkOf 1 bytes → x ≡ Refused (nowhere EditionRetired)
+under-1 bytes e = e ∙ edition-first 1 (retired-fault 1 refl) bytes
 
 -- what was converted tells no split as known, and is allowed
 no-split : (r : SheetRead) → Read bothSets ≡ convertedRead r → ⊥
@@ -100,7 +105,7 @@ plain : (bytes : List ℕ) (a : PayrollNumbers) (e : accepted-payroll a ≡ payr
 plain bytes a e = payroll.plain-numbers bytes a (sym e) (payroll.kept-means-kept bytes .0 (record { numbers = a; answer = sym e }))
 
 pub programs : (κ : Lft) (fd : ℤ) → Programs κ fd
-unfolding known firstBroken allowed holdsOnly firstStray valueFrom sameBytes hasByte oneByteOf daysIn isDay isTime whenRules wellFormed inFront cut joined endsInCr withoutLast inSet contentRules tableRules recordRules joinedRules kindNamed rightReading judgedAs readFound answerAt joinedAt rulesOf behind behindOrRefused tookAt closedAt unendedAt linesOf endOf numberRules strayAt segmentNamed payrollKindNamed readAs payrollReadFound foundRules dueRules payrollRunRules behindDetailAs payrollBehind payrollBehindOrRefused payrollTookAt payrollLinesOf endedOf endAt inBase valueIn inPlaces fromPlaces digitsRight sheetRow bytesOf withinLimits setAllowed setsAllowed headingAllowed noneOf splitAllowed sheetAllowed sheetAs readOf converted lateAt digitsWithin wordOf lineOf refusedLine ledLine totalsText setsText acceptedText outcomeAt payrollOutcomeAt withHeld soFar payrollAnswerAt
+unfolding firstBroken allowed holdsOnly firstStray valueFrom sameBytes hasByte oneByteOf daysIn isDay isTime whenRules wellFormed inFront cut joined endsInCr withoutLast inSet contentRules tableRules recordRules joinedRules kindNamed rightReading judgedAs readFound answerAt joinedAt rulesOf behind behindOrRefused tookAt closedAt unendedAt linesOf endOf numberRules strayAt segmentNamed payrollKindNamed readAs payrollReadFound foundRules dueRules payrollRunRules behindDetailAs payrollBehind payrollBehindOrRefused payrollTookAt payrollLinesOf endedOf endAt inBase valueIn inPlaces fromPlaces digitsRight sheetRow bytesOf withinLimits setAllowed setsAllowed headingAllowed noneOf splitAllowed sheetAllowed sheetAs readOf converted lateAt digitsWithin wordOf lineOf refusedLine ledLine totalsText setsText acceptedText outcomeAt payrollOutcomeAt withHeld soFar payrollAnswerAt
 programs κ fd =
     record {
       eleven-lines = refl;
@@ -120,14 +125,17 @@ programs κ fd =
       outcome-failed = (refl, told cardOutcomeRead refl);
       outcome-early = (refl, told cardOutcomeRead refl);
       check-totals = ((cardFile, refl), λ p. disagreeing (p .0) (p .1));
-      check-edition = (([], refl), λ p. of-edition-3 (p .0) (p .1));
-      work-edition = (([], refl), λ p. of-edition-3 (p .0) (p .1));
+      check-edition = (([], refl), λ p. told answerRead refl (under-3 (p .0) (p .1)));
+      work-edition = (([], refl), λ p. told answerRead refl (under-3 (p .0) (p .1)));
+      work-retired = (([], refl), λ p. told answerRead refl (under-1 (p .0) (p .1)));
       work-word = (refl, told cardOutcomeRead refl);
       work-number = ((cardFile, refl), λ p. p);
-      mask-edition = (([], refl), λ p. of-edition-3 (p .0) (p .1));
+      mask-edition = (([], refl), λ p. told answerRead refl (under-3 (p .0) (p .1)));
+      mask-retired = (([], refl), λ p. told answerRead refl (under-1 (p .0) (p .1)));
       mask-word = (refl, told cardOutcomeRead refl);
       mask-totals = ((cardFile, refl), λ p. disagreeing (p .0) (p .1));
-      write-edition = (([], refl), λ p. of-edition-3 (p .0) (p .1));
+      write-edition = (([], refl), λ p. told answerRead refl (under-3 (p .0) (p .1)));
+      write-retired = (([], refl), λ p. told answerRead refl (under-1 (p .0) (p .1)));
       write-word = (refl, told cardOutcomeRead refl);
       write-totals = ((cardFile, refl), λ p. disagreeing (p .0) (p .1));
       sheet-edition = ((bytesOf (sheetOf 2 9750), refl), λ p. told bit refl (read-allowed (p .0) _ (sym (p .1))));

@@ -11,6 +11,7 @@ refusal =
       number = λ κs a r r' s s' p q. equal p q;
       number-from-one = (refl, told (λ n. n) refl);
       number-exchanged = (refl, told (λ n. n) refl);
+      number-retired = (refl, told (λ n. n) refl);
       nowhere = λ κs a r r' s s' p q. equal p q;
       nowhere-record = (refl, told (λ x. x .«record») refl);
       nowhere-cause = (refl, told (λ x. numberOf (x .cause)) refl);

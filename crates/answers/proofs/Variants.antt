@@ -6,7 +6,7 @@ use mathlib.Core.Bool.{false≢true}
 use native.Mathlib.Omega.{arith}
 use lib.ListN.{length, getD, replicate}
 use lib.Dec.{lit<}
-use Rattle.refusal.specs.declared.Cause.the-variants.{EditionUnknown, SequenceWrong}
+use Rattle.refusal.specs.declared.Cause.the-variants.{EditionRetired, SequenceWrong}
 use Rattle.refusal.specs.Nowhere.{nowhere}
 use Rattle.refusal.specs.Rules.{firstBroken}
 use Rattle.text.specs.Alphabet.{allowed, holdsOnly, firstStray}
@@ -27,7 +27,6 @@ use Rattle.card_record.specs.CardPart.{cardPartFound}
 use Rattle.card_record.specs.Kind.{kindNamed}
 use Rattle.card_record.specs.Reading.{rightReading, judgedAs, readFound}
 use Rattle.card_run.specs.Answer.{answerAt, cardFileRow}
-use Rattle.edition.specs.Known.{known}
 use Rattle.card_run.specs.Running.{closedAt, lateAt}
 use Rattle.card_step.specs.Rules.{joinedAt, rulesOf}
 use Rattle.card_step.specs.Behind.{behind}
@@ -64,7 +63,9 @@ use Rattle.day_sheet.specs.Layout.{inPlaces, fromPlaces, digitsRight}
 use Rattle.day_sheet.specs.Sheet.{sheetRow, bytesOf}
 use Rattle.sheet_numbers.specs.Allowed.{withinLimits, setAllowed, setsAllowed, headingAllowed, noneOf, splitAllowed, sheetAllowed}
 use Rattle.day_sheet.specs.Reading.{readAs as sheetAs, readOf}
+use Rattle.day_sheet.specs.Writing.{putAnswer, putResult, writeAnswer, writeResult}
 use Rattle.sheet_numbers.specs.Converted.{converted}
+use Rattle.day_sheet.specs.Conversion.{convertAnswer, convertResult}
 use Rattle.day_sheet.specs.Answer.{readRow}
 use Rattle.demands.specs.Demands.{Demands}
 use Rattle.demands.specs.Examples.{asWritten, allAsWritten}
@@ -72,9 +73,10 @@ use Rattle.demands.specs.Feeding.{called}
 use Rattle.demands.specs.HiddenDigits.{hiddenAt, hiddenInPieces}
 use Rattle.answers.specs.CardRun.{state, refusal, oneSale}
 use Rattle.answers.specs.DaySheet.{sheetOf, bothSets}
-use Rattle.demands.specs.ExampleFile.{fileOf}
+use Rattle.demands.specs.ExampleFile.{a0, fileOf}
 use Rattle.answers.specs.Samples.{at, sale, cardFile, fileHeader, batchHeader, payment, batchTrailer, fileTrailer, payrollFile}
 use Rattle.answers.specs.Variants.{Variants}
+use Rattle.answers.proofs.Observed.{sheetWritten}
 use Rattle.answers.proofs.Told.{told, bit}
 
 -- no number is one more than itself: 0 is no record of a file
@@ -82,14 +84,16 @@ not-first : (n : ℕ) → 0 ≡ suc n → ⊥
 not-first n e = omega arith
 
 pub variants : (d : Demands) → Variants d
-unfolding known firstBroken allowed holdsOnly valueFrom sameBytes hasByte oneByteOf daysIn isDay isTime whenRules wellFormed leadingZeros hiddenPlaces starWhere inFront cut joined endsInCr withoutLast rejoined inSet contentRules tableRules recordRules joinedRules cardPartFound kindNamed rightReading judgedAs readFound answerAt cardFileRow joinedAt rulesOf behind behindOrRefused tookAt closedAt unendedAt linesOf endOf lateAt fedAll answerWithRoom maskedAt maskedInto clippedWith heldBefore joinedChunks behindEnd withHeld firstStray numberRules strayAt segmentNamed payrollKindNamed readAs payrollReadFound foundRules dueRules payrollRunRules behindDetailAs payrollBehind payrollBehindOrRefused payrollTookAt payrollUnendedAt payrollLinesOf endedOf cutShortOf endAt payrollRow stateRow inBase valueIn inPlaces fromPlaces digitsRight sheetRow bytesOf withinLimits setAllowed setsAllowed headingAllowed noneOf splitAllowed sheetAllowed sheetAs readOf converted readRow asWritten allAsWritten called hiddenAt hiddenInPieces
+unfolding firstBroken allowed holdsOnly valueFrom sameBytes hasByte oneByteOf daysIn isDay isTime whenRules wellFormed leadingZeros hiddenPlaces starWhere inFront cut joined endsInCr withoutLast rejoined inSet contentRules tableRules recordRules joinedRules cardPartFound kindNamed rightReading judgedAs readFound answerAt cardFileRow joinedAt rulesOf behind behindOrRefused tookAt closedAt unendedAt linesOf endOf lateAt fedAll answerWithRoom maskedAt maskedInto clippedWith heldBefore joinedChunks behindEnd withHeld firstStray numberRules strayAt segmentNamed payrollKindNamed readAs payrollReadFound foundRules dueRules payrollRunRules behindDetailAs payrollBehind payrollBehindOrRefused payrollTookAt payrollUnendedAt payrollLinesOf endedOf cutShortOf endAt payrollRow stateRow inBase valueIn inPlaces fromPlaces digitsRight sheetRow bytesOf withinLimits setAllowed setsAllowed headingAllowed noneOf splitAllowed sheetAllowed sheetAs readOf putAnswer putResult writeAnswer writeResult converted convertAnswer convertResult readRow asWritten allAsWritten called hiddenAt hiddenInPieces
 variants d =
     record {
       record-judged = λ wrong.
           let x = refusal SequenceWrong 3 194 in
           told (λ n. n) refl (wrong (state (Refused x) 5 oneSale) sale .is-refused x .0 refl .number);
-      edition-first = λ wrong. told (λ row. bit (row .accepted)) refl (wrong 2 cardFile);
-      file-judged = λ wrong. not-first _ (wrong 3 [] .is-refused (nowhere EditionUnknown) .0 refl .number);
+      edition-first = λ wrong. told (λ row. row .refusal .number) refl (wrong 1 refl .whole []);
+      edition-retired = λ wrong. told (λ row. row .refusal .number) refl (wrong 3 refl .whole []);
+      retired-when-fed = λ wrong. told (λ row. row .refusal .number) refl (wrong 1 refl a0);
+      file-judged = λ wrong. not-first _ (wrong 1 refl [] .is-refused (nowhere EditionRetired) .0 refl .number);
       payroll-record-judged = λ wrong.
           let x = refusal SequenceWrong 3 4 in
           told (λ n. n) refl (wrong (moved (payrollRefused x) 5 1 1 10000 (opened .batch) opened) payment .is-refused x .0 refl .number);
@@ -105,13 +109,17 @@ variants d =
           told (λ t. t .sales) refl (wrong 2 file kept .plain ∙ sym (d .card-rules-kept .numbers 2 file kept .both .plain));
       payroll-rules-kept = λ wrong. false≢true (d .payroll-rules-kept .exactly (payrollFile ++ (26 ∷ [])) .1 (wrong payrollFile .0 refl));
       sheet-there-and-back = λ wrong. told (λ row. row .refusal .number) refl (wrong (sheetOf 3 9750));
+      the-one-we-write = λ wrong. told sheetWritten refl (wrong (bytesOf (sheetOf 1 9750)) (sheetOf 1 9750) refl .answers);
+      the-one-conversion-writes = λ wrong. told (λ s. getD s 52 0) refl (wrong (bytesOf bothSets) bothSets refl .leaves);
+      none-new = λ wrong. told sheetWritten refl (wrong (sheetOf 2 9750) [] .answers);
       sheets-different = λ wrong. told (λ s. getD (sheetRow s) 1 0) refl (wrong (sheetOf 2 9750) (sheetOf 258 9750) refl refl);
       sheet-converted = λ wrong. told (λ row. row .refusal .number) refl (wrong (sheetOf 3 9750));
+      as-written = λ wrong.
+          told sheetWritten refl (wrong (bytesOf (sheetOf 1 9750)) (sheetOf 1 9750) refl (replicate 81 0) _ _ (record { answers = refl; leaves = refl }) .answers);
       from-two-and-back = λ wrong. told (λ s. getD s 52 0) refl (wrong (bytesOf bothSets) refl);
       both-sets-added = λ wrong. told (λ s. getD s 4 0) refl (wrong 2 cardFile (d .card-rules-kept .exactly 2 cardFile .0 refl));
       fed-as-whole = λ wrong. told (λ row. row .refusal .number) refl (wrong 2 (ascii "A0\n" ∷ []) .closed);
       refused-for-good = λ wrong. told (λ row. row .refusal .number) refl (wrong (openOf 2) (refusal SequenceWrong 3 194) []);
-      bad-edition = λ wrong. told (λ row. row .refusal .number) refl (wrong 2 []);
       after-accepted-close = λ wrong. told (λ row. row .refusal .number) refl (wrong (state InBatch 3 oneSale) .close-more);
       one-past-the-last = λ wrong. told (λ n. n) refl (wrong 3 (sale ∷ []));
       in-chunks = λ wrong. told (λ row. row .refusal .number) refl (wrong 2 []);

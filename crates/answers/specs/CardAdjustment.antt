@@ -25,12 +25,12 @@ abbrev pub oneDebit : Aj
 oneDebit = adjustmentOf 2 (amounts 1000 25 975)
 
 pub record CardAdjustment (κ : Lft) : Type 0 where
-  -- `Aj::fault`: a record as wide as a sale taken; the fields not in order; capture 8; capture 7 under edition 1; a type 3
+  -- `Aj::fault`: a record as wide as a sale taken; the fields not in order; capture 8; capture 7 refused; a type 3
   pub fault : OneAnswer Fault.Post
   pub fault-width : Tells (Fault.Post (one κ)) (2, (lent (at 194 "000003" credit), tt)) (At WrongWidth 0) Nothing
   pub fault-order : Tells (Fault.Post (one κ)) (2, (lent (at 163 "x" (at 3 "\n" credit)), tt)) (At ByteNotAllowed 3) (At ByteNotAllowed 163)
   pub fault-capture-8 : Tells (Fault.Post (one κ)) (2, (lent (at 75 "8" credit), tt)) (At ValueNotAllowed 75) Nothing
-  pub fault-capture-7 : Tells (Fault.Post (one κ)) (1, (lent (at 75 "7" credit), tt)) (At ValueNotAllowed 75) Nothing
+  pub fault-capture-7 : Tells (Fault.Post (one κ)) (2, (lent (at 75 "7" credit), tt)) Nothing (At ValueNotAllowed 75)
   pub fault-type : Tells (Fault.Post (one κ)) (2, (lent (at 76 "3" credit), tt)) (At ValueNotAllowed 76) Nothing
   -- zeros refused in field 04, and taken in field 07; a blank card refused, and one of digits and blanks taken
   pub fault-original-date : Tells (Fault.Post (one κ)) (2, (lent (at 30 "00000000" credit), tt)) Nothing (At ValueNotAllowed 30)

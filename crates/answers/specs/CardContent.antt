@@ -18,16 +18,16 @@ use Rattle.card_content.proofs.field.Field.rule.Reads as Rule
 use Rattle.answers.specs.Held.{OneAnswer, OnePart, Tells, lent, part, one}
 
 pub record CardContent (κ : Lft) : Type 0 where
-  -- `is_in_set`: capture 7 under edition 1, and refused under edition 2; another version; two blanks refused
+  -- `is_in_set`: capture 7 refused; capture 0; a capture under an edition that has no row; another version; two blanks refused
   pub is-in-set : OneAnswer IsInSet.Post
-  pub set-capture-1 : Tells (IsInSet.Post (one κ)) (Capture, (1, (lent (ascii "7"), tt))) false true
-  pub set-capture-2 : Tells (IsInSet.Post (one κ)) (Capture, (2, (lent (ascii "7"), tt))) true false
+  pub set-capture-7 : Tells (IsInSet.Post (one κ)) (Capture, (2, (lent (ascii "7"), tt))) true false
+  pub set-capture-0 : Tells (IsInSet.Post (one κ)) (Capture, (2, (lent (ascii "0"), tt))) false true
+  pub set-capture-row : Tells (IsInSet.Post (one κ)) (Capture, (3, (lent (ascii "1"), tt))) false true
   pub set-version : Tells (IsInSet.Post (one κ)) (Version, (2, (lent (ascii "001.8d"), tt))) false true
   pub set-currency : Tells (IsInSet.Post (one κ)) (Currency, (2, (lent (ascii "  "), tt))) true false
-  -- of an adjustment: capture 8; capture 7 under edition 1, and refused under edition 2; a type 0
+  -- of an adjustment: capture 8; capture 7 refused; a type 0
   pub set-adjustment-8 : Tells (IsInSet.Post (one κ)) (AdjustmentCapture, (2, (lent (ascii "8"), tt))) false true
-  pub set-adjustment-1 : Tells (IsInSet.Post (one κ)) (AdjustmentCapture, (1, (lent (ascii "7"), tt))) false true
-  pub set-adjustment-2 : Tells (IsInSet.Post (one κ)) (AdjustmentCapture, (2, (lent (ascii "7"), tt))) true false
+  pub set-adjustment-7 : Tells (IsInSet.Post (one κ)) (AdjustmentCapture, (2, (lent (ascii "7"), tt))) true false
   pub set-adjustment-type : Tells (IsInSet.Post (one κ)) (AdjustmentType, (2, (lent (ascii "0"), tt))) false true
   -- `fault_of`: 7 for a closed set; a star in the card refused; a day that is none taken
   pub fault-of : OneAnswer FaultOf.Post
@@ -55,7 +55,7 @@ pub record CardContent (κ : Lft) : Type 0 where
   pub part-elsewhere : Tells (Part.Post (one κ)) (field 107 108 Digits, (lent sale, tt)) (part 106 (ascii "00")) (part 108 (ascii "00"))
   -- `Field::fault`: the edition not looked at; the last position as the column
   pub fault : OneAnswer Fault.Post
-  pub fault-edition : Tells (Fault.Post (one κ)) (field 54 54 (OneOf Capture), (1, (lent (at 54 "7" sale), tt))) (At ValueNotAllowed 54) Nothing
+  pub fault-edition : Tells (Fault.Post (one κ)) (field 54 54 (OneOf Capture), (3, (lent sale, tt))) (At ValueNotAllowed 54) Nothing
   pub fault-column : Tells (Fault.Post (one κ)) (field 77 87 Digits, (2, (lent (at 80 "x" sale), tt))) (At ByteNotAllowed 77) (At ByteNotAllowed 87)
   -- `Field::number`: the last digit left out; the neighbour's number
   pub number : OneAnswer Number.Post

@@ -5,6 +5,7 @@ use lib.ListN.{take, drop, replicate}
 use Rattle.text.specs.Literal.{ascii}
 use Rattle.refusal.specs.declared.Cause.the-variants.{
   EditionUnknown,
+  EditionRetired,
   OutputTooShort,
   NoLineEnd,
   KindUnknown,
@@ -123,10 +124,11 @@ pub record CardFile (κ : Lft) : Type 0 where
   pub check-forecast : Tells (Check.Post (one κ)) (2, (lent (fileOf (at 44 "0" sale)), tt)) (accepted 5 1 oneForecast) (accepted 5 1 oneSale)
   pub check-advanced : Tells (Check.Post (one κ)) (2, (lent (fileOf (at 44 "2" sale)), tt)) (accepted 5 1 oneSale) (accepted 5 1 oneForecast)
   pub check-instalment : Tells (Check.Post (one κ)) (2, (lent (joined (a0 ∷ l0 ∷ at 44 "0" (at 107 "0102" (at 123 "000000040000000000010000000003900" sale)) ∷ at 9 "00000000004000" l9 ∷ a9 ∷ [])), tt)) (accepted 5 1 (forecast 1 (amounts 4000 100 3900))) (accepted 5 1 oneForecast)
-  -- a look at the first record alone; an edition cut down to a byte; the edition by the version string; what stands behind A9 passed over
+  -- a look at the first record alone; an edition cut down to a byte; the edition by the version string; capture 7 judged under edition 1; what stands behind A9 passed over
   pub check-first-record : Tells (Check.Post (one κ)) (2, (lent (fileOf (at 194 "000004" sale)), tt)) (refused (refusal SequenceWrong 3 194)) (accepted 5 1 oneSale)
   pub check-258 : Tells (Check.Post (one κ)) (258, (lent cardFile, tt)) (refused (refusal EditionUnknown 0 0)) (accepted 5 1 oneSale)
-  pub check-version : Tells (Check.Post (one κ)) (1, (lent (fileOf (at 54 "7" sale)), tt)) (refused (refusal ValueNotAllowed 3 54)) (accepted 5 1 oneSale)
+  pub check-version : Tells (Check.Post (one κ)) (1, (lent cardFile, tt)) (refused (refusal EditionRetired 0 0)) (accepted 5 1 oneSale)
+  pub check-capture : Tells (Check.Post (one κ)) (1, (lent (fileOf (at 54 "7" sale)), tt)) (refused (refusal EditionRetired 0 0)) (refused (refusal ValueNotAllowed 3 54))
   pub check-behind-a9 : Tells (Check.Post (one κ)) (2, (lent (cardFile ++ ascii "\n"), tt)) (refused (refusal BytesAfterTheEnd 6 0)) (accepted 5 1 oneSale)
   -- a header refused for its accents; one that holds 159 taken
   pub check-accents : Tells (Check.Post (one κ)) (2, (lent (joined (at 29 "ESTAÇÃO" a0 ∷ l0 ∷ sale ∷ l9 ∷ a9 ∷ [])), tt)) (accepted 5 1 oneSale) (refused (refusal ByteNotAllowed 1 29))
@@ -135,14 +137,16 @@ pub record CardFile (κ : Lft) : Type 0 where
   pub check-adjusted : Tells (Check.Post (one κ)) (2, (lent adjustedFile, tt)) (Accepted (numbersWith 6 1 oneSale (adjusted 1 975) (adjusted 0 0))) (refused (refusal KindUnknown 4 1))
   pub check-credit : Tells (Check.Post (one κ)) (2, (lent adjustedFile, tt)) (Accepted (numbersWith 6 1 oneSale (adjusted 1 975) (adjusted 0 0))) (accepted 6 1 oneSale)
   pub check-before-l0 : Tells (Check.Post (one κ)) (2, (lent (joined (a0 ∷ at 188 "000002" credit ∷ at 3 "000003000003" a9 ∷ [])), tt)) (refused (refusal KindNotAllowedHere 2 0)) (Accepted (numbersWith 3 0 noSale (adjusted 1 975) (adjusted 0 0)))
-  -- `check_with_room`: 2 before 1; the file's own refusal before 2; a byte more asked for than is needed
+  -- `check_with_room`: 2 before 1, and before 22; the file's own refusal before 2; a byte more asked for than is needed
   pub with-room : OneAnswer WithRoom.Post
   pub with-room-edition : Tells (WithRoom.Post (one κ)) (3, (lent cardFile, (52, (0, tt)))) (refused (refusal EditionUnknown 0 0)) (refused (refusal OutputTooShort 0 0))
+  pub with-room-retired : Tells (WithRoom.Post (one κ)) (1, (lent cardFile, (52, (0, tt)))) (refused (refusal EditionRetired 0 0)) (refused (refusal OutputTooShort 0 0))
   pub with-room-first : Tells (WithRoom.Post (one κ)) (2, (lent [], (52, (51, tt)))) (refused (refusal OutputTooShort 0 0)) (refused (refusal EndsTooEarly 1 0))
   pub with-room-exact : Tells (WithRoom.Post (one κ)) (2, (lent cardFile, (52, (52, tt)))) (accepted 5 1 oneSale) (refused (refusal OutputTooShort 0 0))
-  -- `Stream::open`: always edition 2; a byte that has not come
+  -- `Stream::open`: always edition 2; edition 1 open, so that 22 comes at the end at the earliest; a byte that has not come
   pub stream-open : OneAnswer StreamOpen.Post
   pub stream-open-3 : Tells (StreamOpen.Post tt) (3, tt) (stream (opened (Refused (refusal EditionUnknown 0 0)) 3) []) (stream (opened Start 3) [])
+  pub stream-open-1 : Tells (StreamOpen.Post tt) (1, tt) (stream (opened (Refused (refusal EditionRetired 0 0)) 1) []) (stream (opened Start 1) [])
   pub stream-open-byte : Tells (StreamOpen.Post tt) (2, tt) (stream (opened Start 2) []) (stream (opened Start 2) (ascii " "))
   -- `Stream::take`: a record cut in two judged by its second half; what comes behind the LF lost
   pub stream-take : OneAnswer StreamTake.Post

@@ -4,7 +4,7 @@ use mathlib.Core.List.{List, [], _++_}
 use lib.ListN.{length, take}
 use denote.Ref.{now}
 use Rattle.text.specs.Literal.{ascii}
-use Rattle.refusal.specs.declared.Cause.the-variants.{EditionUnknown, OutputTooShort, SequenceWrong, KindUnknown, WrongWidth, FieldNotOffered}
+use Rattle.refusal.specs.declared.Cause.the-variants.{EditionUnknown, EditionRetired, OutputTooShort, SequenceWrong, KindUnknown, WrongWidth, FieldNotOffered}
 use Rattle.card_run.specs.declared.answer.CardAnswer.the-variants.{Refused}
 use Rattle.sale_field.specs.declared.FieldAnswer.the-variants.{Offered, Refused as notOffered}
 use Rattle.sheet_numbers.specs.declared.sheet.Sheet.{Sheet}
@@ -74,7 +74,7 @@ pub record CardMask (κ : Lft) : Type 0 where
       TellsOutcome (MaskLines.Post (one κ)) (lent (at 163 blankCard credit ++ ascii "\r\n"), tt)
       (record { answer = 195; exit = (lent (at 163 blankCard credit ++ ascii "\r\n"), tt) })
       (record { answer = 195; exit = (lent (at 163 "      *********    " credit ++ ascii "\r\n"), tt) })
-  -- `mask`: no masking; a refused file's output written; a shorter output filled as far as it goes; 2 before 1
+  -- `mask`: no masking; a refused file's output written; a shorter output filled as far as it goes; 2 before 1, and before 22; a file under edition 1 masked
   pub mask : OneOutcome (λ κs s. now (s .1 .1 .0)) Mask.Post
   pub mask-none :
       TellsOutcome (Mask.Post (two κ)) (2, (lent cardFile, (lent (room (length cardFile)), tt)))
@@ -92,6 +92,14 @@ pub record CardMask (κ : Lft) : Type 0 where
       TellsOutcome (Mask.Post (two κ)) (3, (lent cardFile, (lent (room 201), tt)))
       (record { answer = Refused (refusal EditionUnknown 0 0); exit = (3, (lent cardFile, (lent (room 201), tt))) })
       (record { answer = Refused (refusal OutputTooShort 0 0); exit = (3, (lent cardFile, (lent (room 201), tt))) })
+  pub mask-order-retired :
+      TellsOutcome (Mask.Post (two κ)) (1, (lent cardFile, (lent (room 201), tt)))
+      (record { answer = Refused (refusal EditionRetired 0 0); exit = (1, (lent cardFile, (lent (room 201), tt))) })
+      (record { answer = Refused (refusal OutputTooShort 0 0); exit = (1, (lent cardFile, (lent (room 201), tt))) })
+  pub mask-retired :
+      TellsOutcome (Mask.Post (two κ)) (1, (lent cardFile, (lent (room (length cardFile)), tt)))
+      (record { answer = Refused (refusal EditionRetired 0 0); exit = (1, (lent cardFile, (lent (room (length cardFile)), tt))) })
+      (record { answer = accepted 5 1 oneSale; exit = (1, (lent cardFile, (lent (fileOf maskedSale), tt))) })
   -- `field_answer`: the card offered; a longer record taken; an adjustment taken; 14 before 4
   pub field-answer : OneAnswer FieldAnswer.Post
   pub field-card : Tells (FieldAnswer.Post (one κ)) (lent sale, (13, tt)) (notOffered (refusal FieldNotOffered 0 0)) Offered
@@ -106,20 +114,28 @@ pub record CardMask (κ : Lft) : Type 0 where
   -- `sheet_from`: always edition 2; the records for the batches; the split as 0, also where nothing is forecast; the forecast added into the settled places; the forecast left
   -- out; the sets exchanged; version 1
   pub sheet-from : OneAnswer SheetFrom.Post
-  pub sheet-edition : Tells (SheetFrom.Post tt) (1, (numbers, tt)) (daySheet 1) (daySheet 2)
+  pub sheet-edition : Tells (SheetFrom.Post tt) (3, (numbers, tt)) (daySheet 3) (daySheet 2)
   pub sheet-records : Tells (SheetFrom.Post tt) (2, (numbers, tt)) (daySheet 2) (Version2 (record { edition = 2; date = 20240229; movement = 1; batches = 5 }) 1 oneSale)
   pub sheet-split : Tells (SheetFrom.Post tt) (2, (numbers, tt)) (daySheet 2) (sheetWith 2 0 oneSale)
   pub sheet-added : Tells (SheetFrom.Post tt) (2, (numbersOf 6 1 twoSales, tt)) (sheetWith 2 1 twoSales) (sheetWith 2 1 bothSettled)
   pub sheet-settled : Tells (SheetFrom.Post tt) (2, (numbersOf 6 1 twoSales, tt)) (sheetWith 2 1 twoSales) (daySheet 2)
   pub sheet-exchanged : Tells (SheetFrom.Post tt) (2, (numbers, tt)) (daySheet 2) (sheetWith 2 1 oneForecast)
   pub sheet-version : Tells (SheetFrom.Post tt) (2, (numbers, tt)) (daySheet 2) (converted (daySheet 2))
-  -- `sheet_of`: another edition in the sheet; a byte past 81 changed; a refused file's output written; 80 bytes enough, and 52; the split as 0; a forecast in the settled places;
-  -- version 1 written
+  -- `sheet_of`: another edition in the sheet; a sheet under edition 1; 2 before 22; a byte past 81 changed; a refused file's output written; 80 bytes enough, and 52; the split as
+  -- 0; a forecast in the settled places; version 1 written
   pub sheet-of : OneOutcome (λ κs s. now (s .1 .1 .0)) SheetOf.Post
   pub sheet-of-edition :
+      TellsOutcome (SheetOf.Post (two κ)) (2, (lent cardFile, (lent (room 81), tt)))
+      (record { answer = accepted 5 1 oneSale; exit = (2, (lent cardFile, (lent (bytesOf (daySheet 2)), tt))) })
+      (record { answer = accepted 5 1 oneSale; exit = (2, (lent cardFile, (lent (bytesOf (daySheet 1)), tt))) })
+  pub sheet-of-retired :
       TellsOutcome (SheetOf.Post (two κ)) (1, (lent cardFile, (lent (room 81), tt)))
+      (record { answer = Refused (refusal EditionRetired 0 0); exit = (1, (lent cardFile, (lent (room 81), tt))) })
       (record { answer = accepted 5 1 oneSale; exit = (1, (lent cardFile, (lent (bytesOf (daySheet 1)), tt))) })
-      (record { answer = accepted 5 1 oneSale; exit = (1, (lent cardFile, (lent (bytesOf (daySheet 2)), tt))) })
+  pub sheet-of-order :
+      TellsOutcome (SheetOf.Post (two κ)) (1, (lent cardFile, (lent (room 80), tt)))
+      (record { answer = Refused (refusal EditionRetired 0 0); exit = (1, (lent cardFile, (lent (room 80), tt))) })
+      (record { answer = Refused (refusal OutputTooShort 0 0); exit = (1, (lent cardFile, (lent (room 80), tt))) })
   pub sheet-of-past :
       TellsOutcome (SheetOf.Post (two κ)) (2, (lent cardFile, (lent (room 82), tt)))
       (record { answer = accepted 5 1 oneSale; exit = (2, (lent cardFile, (lent (bytesOf (daySheet 2) ++ room 1), tt))) })

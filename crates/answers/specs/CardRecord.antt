@@ -38,9 +38,9 @@ pub record CardRecord (κ : Lft) : Type 0 where
   pub card-as-sale : Tells (CardPart.Post (one κ)) (lent credit, tt) (From 162) (From 87)
   pub card-other-kind : Tells (CardPart.Post (one κ)) (lent (at 1 "CC" sale), tt) Nowhere (From 87)
   pub card-wide-adjustment : Tells (CardPart.Post (one κ)) (lent (at 1 "AJ" sale), tt) Nowhere (From 162)
-  -- `read`: capture 7 under edition 1; a launch type 3; a day that is none; a hidden digit of the card looked at
+  -- `read`: capture 0; a launch type 3; a day that is none; a hidden digit of the card looked at
   pub read : OneAnswer Read.Post
-  pub read-capture : Tells (Read.Post (one κ)) (1, (lent (at 54 "7" sale), tt)) (Faulty Cv ValueNotAllowed 54) (saleRead cashSale)
+  pub read-capture : Tells (Read.Post (one κ)) (2, (lent (at 54 "0" sale), tt)) (Faulty Cv ValueNotAllowed 54) (saleRead cashSale)
   pub read-launch-type : Tells (Read.Post (one κ)) (2, (lent (at 44 "3" sale), tt)) (Faulty Cv ValueNotAllowed 44) (saleRead cashSale)
   pub read-day : Tells (Read.Post (one κ)) (2, (lent (at 30 "20230229" sale), tt)) (Faulty Cv ValueNotAllowed 30) (saleRead cashSale)
   pub read-check-digit : Tells (Read.Post (one κ)) (2, (lent (at 99 "7" sale), tt)) (saleRead cashSale) (Faulty Cv ValueNotAllowed 88)
@@ -53,7 +53,7 @@ pub record CardRecord (κ : Lft) : Type 0 where
   pub read-adjustment-check-digit : Tells (Read.Post (one κ)) (2, (lent (at 174 "7" credit), tt)) (adjustmentRead oneCredit) (Faulty Aj ValueNotAllowed 163)
   -- `card_quick::read`: a picture of a sale that is too wide takes what the slow way refuses; one that is too narrow has the last word
   pub quick-read : OneAnswer QuickRead.Post
-  pub quick-read-capture : Tells (QuickRead.Post (one κ)) (1, (lent (at 54 "7" sale), tt)) (Faulty Cv ValueNotAllowed 54) (saleRead cashSale)
+  pub quick-read-capture : Tells (QuickRead.Post (one κ)) (2, (lent (at 54 "0" sale), tt)) (Faulty Cv ValueNotAllowed 54) (saleRead cashSale)
   pub quick-read-launch-type : Tells (QuickRead.Post (one κ)) (2, (lent (at 44 "3" sale), tt)) (Faulty Cv ValueNotAllowed 44) (saleRead cashSale)
   pub quick-read-day : Tells (QuickRead.Post (one κ)) (2, (lent (at 30 "20230229" sale), tt)) (Faulty Cv ValueNotAllowed 30) (saleRead cashSale)
   pub quick-read-check-digit : Tells (QuickRead.Post (one κ)) (2, (lent (at 99 "7" sale), tt)) (saleRead cashSale) (Faulty Cv ValueNotAllowed 88)

@@ -11,7 +11,7 @@ use Rattle.card_run.specs.declared.answer.CardAnswer.{CardAnswer}
 use Rattle.card_run.specs.declared.adjusted.Adjusted.{Adjusted}
 use Rattle.card_run.specs.declared.batch.OpenBatch.{OpenBatch}
 use mathlib.Core.Bool.{true, false}
-use Rattle.refusal.specs.declared.Cause.the-variants.{EditionUnknown, SequenceWrong, EndsTooEarly, BytesAfterTheEnd}
+use Rattle.refusal.specs.declared.Cause.the-variants.{EditionUnknown, EditionRetired, SequenceWrong, EndsTooEarly, BytesAfterTheEnd}
 use Rattle.card_record.specs.declared.kind.Kind.the-variants.{A0, Cv, Aj, L9}
 use Rattle.card_run.specs.declared.stage.Stage.the-variants.{Start, BetweenBatches, InBatch, Ended, Closed, Refused}
 use Rattle.card_run.specs.declared.answer.CardAnswer.the-variants.{GoingOn, Accepted, Refused as refused}
@@ -91,10 +91,12 @@ opened stage edition =
     }
 
 pub record CardRun : Type 0 where
-  -- `Running::open`: an edition cut down to a byte, 258 to 2; edition 1 refused
+  -- `Running::open`: an edition cut down to a byte, 258 to 2; edition 1 open, so that 22 comes at the close at the earliest; 1 for edition 1, and 22 for edition 3
   pub opens : OneAnswer Open.Post
   pub open-258 : Tells (Open.Post tt) (258, tt) (opened (Refused (refusal EditionUnknown 0 0)) 258) (opened Start 258)
-  pub open-1 : Tells (Open.Post tt) (1, tt) (opened Start 1) (opened (Refused (refusal EditionUnknown 0 0)) 1)
+  pub open-1 : Tells (Open.Post tt) (1, tt) (opened (Refused (refusal EditionRetired 0 0)) 1) (opened Start 1)
+  pub open-unknown : Tells (Open.Post tt) (1, tt) (opened (Refused (refusal EditionRetired 0 0)) 1) (opened (Refused (refusal EditionUnknown 0 0)) 1)
+  pub open-3 : Tells (Open.Post tt) (3, tt) (opened (Refused (refusal EditionUnknown 0 0)) 3) (opened (Refused (refusal EditionRetired 0 0)) 3)
   -- `Running::refused`: the record before told; the refusal forgotten
   pub refuses : OneAnswer RefusedAt.Post
   pub refused-before : Tells (RefusedAt.Post tt) (state InBatch 2 noSale, (SequenceWrong, (194, tt))) (state (Refused (refusal SequenceWrong 3 194)) 2 noSale) (state (Refused (refusal SequenceWrong 2 194)) 2 noSale)

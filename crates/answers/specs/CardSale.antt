@@ -40,11 +40,11 @@ abbrev pub cashSale : Cv
 cashSale = cashAs 1
 
 pub record CardSale (κ : Lft) : Type 0 where
-  -- `Cv::fault`: a longer record taken; the fields not in order; capture 7 under edition 1
+  -- `Cv::fault`: a longer record taken; the fields not in order; capture 0
   pub fault : OneAnswer Fault.Post
   pub fault-width : Tells (Fault.Post (one κ)) (2, (lent (at 200 "0" sale), tt)) (At WrongWidth 0) Nothing
   pub fault-order : Tells (Fault.Post (one κ)) (2, (lent (at 88 "x" (at 3 "\n" sale)), tt)) (At ByteNotAllowed 3) (At ByteNotAllowed 88)
-  pub fault-capture : Tells (Fault.Post (one κ)) (1, (lent (at 54 "7" sale), tt)) (At ValueNotAllowed 54) Nothing
+  pub fault-capture : Tells (Fault.Post (one κ)) (2, (lent (at 54 "0" sale), tt)) (At ValueNotAllowed 54) Nothing
   -- `Cv::read`: gross read for net; the instalment's amounts for the sale's
   pub read : OneAnswer Read.Post
   pub read-gross : Tells (Read.Post (one κ)) (lent sale, tt) cashSale (saleOf (amounts 10000 250 10000) 0 0 (amounts 0 0 0))

@@ -6,7 +6,8 @@ use lib.ListN.{take}
 use denote.Ref.{now}
 use Rattle.text.specs.Literal.{ascii}
 use Rattle.refusal.specs.declared.Cause.{Cause}
-use Rattle.refusal.specs.declared.Cause.the-variants.{OutputTooShort, NotADaySheet, SheetVersionUnknown, SheetNumbersNotAllowed}
+use Rattle.refusal.specs.declared.Cause.the-variants.{EditionUnknown, EditionRetired, OutputTooShort, NotADaySheet, SheetVersionUnknown, SheetNumbersNotAllowed}
+use Rattle.refusal.specs.declared.Fault.the-variants.{Nothing, At}
 use Rattle.totals.specs.declared.amounts.Totals.{Totals}
 use Rattle.totals.specs.Amounts.{noTotals}
 use Rattle.totals.specs.TwoSets.{setsOf}
@@ -27,12 +28,14 @@ use base.Fml.{Lft}
 use Rattle.day_sheet.proofs.number.Form.put.Reads as Put
 use Rattle.day_sheet.proofs.layout.Version.width.Reads as Width
 use Rattle.day_sheet.proofs.layout.version_of.Reads as VersionOf
+use Rattle.sheet_numbers.proofs.sheet.Sheet.edition.Reads as SheetEdition
 use Rattle.sheet_numbers.proofs.sheet.Sheet.converted.Reads as Converted
 use Rattle.sheet_numbers.proofs.sheet.Sheet.is_allowed.Reads as IsAllowed
 use Rattle.day_sheet.proofs.reader.read.Reads as ReadSheet
 use Rattle.day_sheet.proofs.writer.write.Reads as WriteSheet
 use Rattle.day_sheet.proofs.converter.convert.Reads as ConvertSheet
-use Rattle.edition.proofs.known.is_known.Reads as IsKnown
+use Rattle.edition.proofs.known.is_retired.Reads as IsRetired
+use Rattle.edition.proofs.known.fault_of.Reads as FaultOfEdition
 use Rattle.edition.proofs.edition_of.Reads as EditionOf
 use Rattle.answers.specs.Held.{OneAnswer, OneOutcome, Tells, TellsOutcome, lent, one, two}
 
@@ -58,6 +61,13 @@ bothSets = splitSheet 1 forecasts settled
 
 abbrev added : Sheet
 added = Version1 (heading 2) (totalsOf 3 (amounts 30000 750 29250))
+
+-- both of edition 1
+abbrev oldSets : Sheet
+oldSets = Version2 (heading 1) 1 (setsOf forecasts settled)
+
+abbrev oldAdded : Sheet
+oldAdded = Version1 (heading 1) (totalsOf 3 (amounts 30000 750 29250))
 
 -- the largest totals of a set, and the least that make them too large
 abbrev largest : Totals
@@ -89,16 +99,21 @@ pub record DaySheet (κ : Lft) : Type 0 where
   pub version : OneAnswer VersionOf.Post
   pub version-one : Tells (VersionOf.Post tt) (sheetOf 2 9750, tt) One Two
   pub version-two : Tells (VersionOf.Post tt) (splitSheet 1 noTotals settled, tt) Two One
+  -- `Sheet::edition`: the version told; the split told
+  pub edition : OneAnswer SheetEdition.Post
+  pub edition-version : Tells (SheetEdition.Post tt) (sheetOf 2 9750, tt) 2 1
+  pub edition-split : Tells (SheetEdition.Post tt) (bothSets, tt) 2 1
   -- `Sheet::converted`: the split told as known; all sales as forecast; the settled alone, and a forecast added twice
   pub converted : OneAnswer Converted.Post
   pub converted-split : Tells (Converted.Post tt) (sheetOf 2 9750, tt) (splitSheet 0 noTotals settled) (splitSheet 1 noTotals settled)
   pub converted-forecast : Tells (Converted.Post tt) (sheetOf 2 9750, tt) (splitSheet 0 noTotals settled) (splitSheet 0 settled noTotals)
   pub converted-settled : Tells (Converted.Post tt) (bothSets, tt) added (sheetOf 2 9750)
   pub converted-twice : Tells (Converted.Post tt) (bothSets, tt) added (Version1 (heading 2) (totalsOf 5 (amounts 50000 1250 48750)))
-  -- `Sheet::is_allowed`: edition 3 allowed; amounts that disagree allowed, and such as agree only in the sum of both sets; limits tested for each set and not for both; a
+  -- `Sheet::is_allowed`: edition 3 allowed; edition 1 not; amounts that disagree allowed, and such as agree only in the sum of both sets; limits tested for each set and not for both; a
   -- split of 2 allowed; a split of 0 allowed with a forecast, of its count alone too; a known split refused where nothing is forecast
   pub is-allowed : OneAnswer IsAllowed.Post
   pub allowed-edition : Tells (IsAllowed.Post tt) (sheetOf 3 9750, tt) false true
+  pub allowed-old : Tells (IsAllowed.Post tt) (sheetOf 1 9750, tt) true false
   pub allowed-net : Tells (IsAllowed.Post tt) (sheetOf 2 9751, tt) false true
   pub allowed-agree :
       Tells (IsAllowed.Post tt) (splitSheet 1 (totalsOf 1 (amounts 10000 250 9749)) (totalsOf 1 (amounts 10000 250 9751)), tt) false true
@@ -114,6 +129,10 @@ pub record DaySheet (κ : Lft) : Type 0 where
   pub read-one-sheet : Tells (ReadSheet.Post (one κ)) (lent [], tt) (Refused (refusal NotADaySheet 0 0)) (Read (sheetOf 2 9750))
   pub read-mark : Tells (ReadSheet.Post (one κ)) (lent (at 1 "d" (bytesOf (sheetOf 2 9750))), tt) (Refused (refusal NotADaySheet 0 0)) (Read (sheetOf 2 9750))
   pub read-disagreeing : Tells (ReadSheet.Post (one κ)) (lent (bytesOf (sheetOf 2 9751)), tt) (Refused (refusal SheetNumbersNotAllowed 0 0)) (Read (sheetOf 2 9751))
+  -- a sheet of edition 1 refused, in version 1 and in version 2, or read as one of edition 2
+  pub read-old : Tells (ReadSheet.Post (one κ)) (lent (bytesOf (sheetOf 1 9750)), tt) (Read (sheetOf 1 9750)) (Refused (refusal EditionRetired 0 0))
+  pub read-old-two : Tells (ReadSheet.Post (one κ)) (lent (bytesOf oldSets), tt) (Read oldSets) (Refused (refusal EditionRetired 0 0))
+  pub read-old-edition : Tells (ReadSheet.Post (one κ)) (lent (bytesOf (sheetOf 1 9750)), tt) (Read (sheetOf 1 9750)) (Read (sheetOf 2 9750))
   -- 52 bytes with version 2 taken, and 81 with version 1; a sheet of version 2 refused, its sets exchanged, both of them added; 80 bytes of it taken; a split of 2 taken, and
   -- limits not tested for both
   pub read-version : Tells (ReadSheet.Post (one κ)) (lent (at 5 "\u{2}" (bytesOf (sheetOf 2 9750))), tt) (Refused (refusal SheetVersionUnknown 0 0)) (Read (sheetOf 2 9750))
@@ -168,8 +187,29 @@ pub record DaySheet (κ : Lft) : Type 0 where
       TellsOutcome (WriteSheet.Post (one κ)) (bothSets, (lent (room 81), tt))
       (record { answer = Written; exit = (bothSets, (lent (bytesOf bothSets), tt)) })
       (record { answer = Written; exit = (bothSets, (lent (at 54 "\u{2}\0\0\0" (bytesOf bothSets)), tt)) })
+  -- a new sheet of edition 1 written, in version 1 and in version 2; 17 before 22, and 2; 22 for edition 3
+  pub write-old :
+      TellsOutcome (WriteSheet.Post (one κ)) (sheetOf 1 9750, (lent (room 52), tt))
+      (record { answer = refused EditionRetired; exit = (sheetOf 1 9750, (lent (room 52), tt)) })
+      (record { answer = Written; exit = (sheetOf 1 9750, (lent (bytesOf (sheetOf 1 9750)), tt)) })
+  pub write-old-two :
+      TellsOutcome (WriteSheet.Post (one κ)) (oldSets, (lent (room 81), tt))
+      (record { answer = refused EditionRetired; exit = (oldSets, (lent (room 81), tt)) })
+      (record { answer = Written; exit = (oldSets, (lent (bytesOf oldSets), tt)) })
+  pub write-old-numbers :
+      TellsOutcome (WriteSheet.Post (one κ)) (sheetOf 1 9751, (lent (room 52), tt))
+      (record { answer = refused EditionRetired; exit = (sheetOf 1 9751, (lent (room 52), tt)) })
+      (record { answer = refused SheetNumbersNotAllowed; exit = (sheetOf 1 9751, (lent (room 52), tt)) })
+  pub write-old-short :
+      TellsOutcome (WriteSheet.Post (one κ)) (sheetOf 1 9750, (lent (room 51), tt))
+      (record { answer = refused EditionRetired; exit = (sheetOf 1 9750, (lent (room 51), tt)) })
+      (record { answer = refused OutputTooShort; exit = (sheetOf 1 9750, (lent (room 51), tt)) })
+  pub write-3 :
+      TellsOutcome (WriteSheet.Post (one κ)) (sheetOf 3 9750, (lent (room 52), tt))
+      (record { answer = refused SheetNumbersNotAllowed; exit = (sheetOf 3 9750, (lent (room 52), tt)) })
+      (record { answer = refused EditionRetired; exit = (sheetOf 3 9750, (lent (room 52), tt)) })
   -- `convert`: the split told as known; what is lent as output filled where the sheet is not readable, 2 before that refusal, and 17 for 15; 80 bytes enough from 1 to 2, 81
-  -- wanted from 2 to 1; a byte past what is written changed; the settled alone; the same version again
+  -- wanted from 2 to 1; a byte past what is written changed; the settled alone; the same version again; a sheet of edition 1 refused, or become one of edition 2
   pub convert : OneOutcome (λ κs s. now (s .1 .0)) ConvertSheet.Post
   pub convert-split :
       TellsOutcome (ConvertSheet.Post (two κ)) (lent (bytesOf (sheetOf 2 9750)), (lent (room 81), tt))
@@ -207,10 +247,26 @@ pub record DaySheet (κ : Lft) : Type 0 where
       TellsOutcome (ConvertSheet.Post (two κ)) (lent (bytesOf (sheetOf 2 9750)), (lent (room 81), tt))
       (record { answer = Written; exit = (lent (bytesOf (sheetOf 2 9750)), (lent (bytesOf (splitSheet 0 noTotals settled)), tt)) })
       (record { answer = Written; exit = (lent (bytesOf (sheetOf 2 9750)), (lent (bytesOf (sheetOf 2 9750) ++ room 29), tt)) })
-  -- `is_known`: an edition cut down to a byte, 258 to 2; edition 1 not known
-  pub is-known : OneAnswer IsKnown.Post
-  pub is-known-258 : Tells (IsKnown.Post tt) (258, tt) false true
-  pub is-known-1 : Tells (IsKnown.Post tt) (1, tt) true false
+  pub convert-old :
+      TellsOutcome (ConvertSheet.Post (two κ)) (lent (bytesOf oldSets), (lent (room 52), tt))
+      (record { answer = Written; exit = (lent (bytesOf oldSets), (lent (bytesOf oldAdded), tt)) })
+      (record { answer = refused EditionRetired; exit = (lent (bytesOf oldSets), (lent (room 52), tt)) })
+  pub convert-old-edition :
+      TellsOutcome (ConvertSheet.Post (two κ)) (lent (bytesOf oldSets), (lent (room 52), tt))
+      (record { answer = Written; exit = (lent (bytesOf oldSets), (lent (bytesOf oldAdded), tt)) })
+      (record { answer = Written; exit = (lent (bytesOf oldSets), (lent (bytesOf added), tt)) })
+  -- `is_retired`: an edition cut down to a byte, 257 to 1; edition 2 retired; edition 1 not
+  pub is-retired : OneAnswer IsRetired.Post
+  pub is-retired-257 : Tells (IsRetired.Post tt) (257, tt) false true
+  pub is-retired-2 : Tells (IsRetired.Post tt) (2, tt) false true
+  pub is-retired-1 : Tells (IsRetired.Post tt) (1, tt) true false
+  -- `fault_of`: 258 cut down to 2; 22 for edition 3; 1 for edition 1, and none; edition 2 retired
+  pub edition-fault : OneAnswer FaultOfEdition.Post
+  pub edition-fault-258 : Tells (FaultOfEdition.Post tt) (258, tt) (At EditionUnknown 0) Nothing
+  pub edition-fault-3 : Tells (FaultOfEdition.Post tt) (3, tt) (At EditionUnknown 0) (At EditionRetired 0)
+  pub edition-fault-1 : Tells (FaultOfEdition.Post tt) (1, tt) (At EditionRetired 0) (At EditionUnknown 0)
+  pub edition-fault-none : Tells (FaultOfEdition.Post tt) (1, tt) (At EditionRetired 0) Nothing
+  pub edition-fault-2 : Tells (FaultOfEdition.Post tt) (2, tt) Nothing (At EditionRetired 0)
   -- `edition_of`: a value that wraps, 2^64 + 2; no digit at all taken for 0; a sign passed over
   pub edition-of : OneAnswer EditionOf.Post
   pub edition-wraps : Tells (EditionOf.Post (one κ)) (lent (ascii "18446744073709551618"), tt) (Of 18446744073709551615) (Of 2)

@@ -34,11 +34,12 @@ use Rattle.answers.specs.Samples.{
 }
 
 pub record Definitions : Type 0 where
-  -- `Kept` of a card file: the card's digits judged, a first instalment refused; a sale whose amounts disagree kept, a trailer by the net
+  -- `Kept` of a card file: the card's digits judged, a first instalment refused; a sale whose amounts disagree kept, a trailer by the net, a file of edition 1
   pub kept-other-card : Kept 2 (fileOf (at 88 "0004929000000000017" sale))
   pub kept-first-instalment : Kept 2 (fileOf (at 107 "0102" (at 123 "000000100000000000025000000009750" sale)))
   pub kept-disagreeing : Kept 2 (fileOf (at 77 "00000009751" sale)) → ⊥
   pub kept-by-net : Kept 2 (joined (a0 ∷ l0 ∷ sale ∷ at 9 "00000000009750" l9 ∷ a9 ∷ [])) → ⊥
+  pub kept-retired : Kept 1 cardFile → ⊥
   -- accents refused in the header and in a sale; a name that holds 159 kept
   pub kept-accents : Kept 2 (joined (at 29 "ESTAÇÃO" a0 ∷ l0 ∷ at 3 "LUÍS GAMA" sale ∷ l9 ∷ a9 ∷ []))
   pub kept-159 : Kept 2 (joined (at 29 "ESTA\u{9f}" a0 ∷ l0 ∷ sale ∷ l9 ∷ a9 ∷ [])) → ⊥

@@ -9,7 +9,7 @@ use lib.IntN.{ℤ}
 use base.Fml.{Lft}
 use denote.Ref.{RefT}
 use Rattle.text.specs.Literal.{ascii}
-use Rattle.refusal.specs.declared.Cause.the-variants.{EditionUnknown, SequenceWrong, WrongWidth, EndsTooEarly}
+use Rattle.refusal.specs.declared.Cause.the-variants.{EditionUnknown, EditionRetired, SequenceWrong, WrongWidth, EndsTooEarly}
 use Rattle.card_run.specs.declared.answer.CardAnswer.{CardAnswer}
 use Rattle.card_run.specs.declared.answer.CardAnswer.the-variants.{GoingOn, Refused}
 use Rattle.payroll_file.specs.declared.answer.PayrollAnswer.{PayrollAnswer}
@@ -52,12 +52,15 @@ use Rattle.answers.specs.CardRun.{refusal, oneSale, accepted}
 use Rattle.answers.specs.Texts.{elevenLines}
 use Rattle.answers.specs.DaySheet.{sheetOf, bothSets}
 
--- an accepted file whose gross is neither discount nor net, and the refusal of an edition that is not known
+-- an accepted file whose gross is neither discount nor net, and the refusals of an edition that is not known, and of one that is retired
 abbrev pub madeUp : CardAnswer
 madeUp = accepted 5 1 (settled 1 (amounts 10000 250 9751))
 
 abbrev unknownEdition : CardAnswer
 unknownEdition = Refused (refusal EditionUnknown 0 0)
+
+abbrev retiredEdition : CardAnswer
+retiredEdition = Refused (refusal EditionRetired 0 0)
 
 -- a payroll file's answer
 abbrev paid : ℕ → ℕ → PayrollAnswer
@@ -95,14 +98,17 @@ pub record Programs (κ : Lft) (fd : ℤ) : Type 0 where
   -- `check`: totals that no file has; an edition that the program chose itself
   pub check-totals : Tells (Check.Post tt) (2, (fd, tt)) (Answer (accepted 5 1 oneSale)) (Answer madeUp)
   pub check-edition : Tells (Check.Post tt) (3, (fd, tt)) (Answer unknownEdition) (Answer (accepted 5 1 oneSale))
-  -- `work` of `card`, `mask` and `sheet`: always edition 2; a word that is no number taken for one; a number told as none
+  -- `work` of `card`, `mask` and `sheet`: always edition 2; edition 1 not known, or still read; a word that is no number taken for one; a number told as none
   pub work-edition : Tells (Work.Post (one κ)) (lent (ascii "3"), (fd, tt)) (Answer unknownEdition) (Answer (accepted 5 1 oneSale))
+  pub work-retired : Tells (Work.Post (one κ)) (lent (ascii "1"), (fd, tt)) (Answer retiredEdition) (Answer unknownEdition)
   pub work-word : Tells (Work.Post (one κ)) (lent (ascii "two"), (fd, tt)) (Mistake EditionNoNumber) (Answer (accepted 5 1 oneSale))
   pub work-number : Tells (Work.Post (one κ)) (lent (ascii "2"), (fd, tt)) (Answer (accepted 5 1 oneSale)) (Mistake EditionNoNumber)
   pub mask-edition : Tells (Mask.Post (three κ)) (arguments "3") (Answer unknownEdition) (Answer (accepted 5 1 oneSale))
+  pub mask-retired : Tells (Mask.Post (three κ)) (arguments "1") (Answer retiredEdition) (Answer (accepted 5 1 oneSale))
   pub mask-word : Tells (Mask.Post (three κ)) (arguments "two") (Mistake EditionNoNumber) (Answer (accepted 5 1 oneSale))
   pub mask-totals : Tells (Mask.Post (three κ)) (arguments "2") (Answer (accepted 5 1 oneSale)) (Answer madeUp)
   pub write-edition : Tells (Write.Post (three κ)) (arguments "3") (Answer unknownEdition) (Answer (accepted 5 1 oneSale))
+  pub write-retired : Tells (Write.Post (three κ)) (arguments "1") (Answer retiredEdition) (Answer (accepted 5 1 oneSale))
   pub write-word : Tells (Write.Post (three κ)) (arguments "two") (Mistake EditionNoNumber) (Answer (accepted 5 1 oneSale))
   pub write-totals : Tells (Write.Post (three κ)) (arguments "2") (Answer (accepted 5 1 oneSale)) (Answer madeUp)
   -- `sheet_program::read`: a sheet of edition 3; one whose amounts disagree

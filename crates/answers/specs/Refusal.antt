@@ -1,6 +1,6 @@
 -- What the contracts of `refusal` are held to. Behind a function's name: the wrong programs that are ruled out.
 use mathlib.Core.Bool.{true, false}
-use Rattle.refusal.specs.declared.Cause.the-variants.{EditionUnknown, OutputTooShort, ByteNotAllowed, ValueNotAllowed, KindUnknown}
+use Rattle.refusal.specs.declared.Cause.the-variants.{EditionUnknown, EditionRetired, OutputTooShort, ByteNotAllowed, ValueNotAllowed, KindUnknown}
 use Rattle.refusal.specs.declared.Fault.the-variants.{Nothing, At}
 use Rattle.refusal.proofs.Cause.number.Reads as Number
 use Rattle.refusal.proofs.Refusal.nowhere.Reads as NowhereOf
@@ -9,10 +9,11 @@ use Rattle.refusal.proofs.Fault.earlier.Reads as Earlier
 use Rattle.answers.specs.Held.{OneAnswer, Tells}
 
 pub record Refusal : Type 0 where
-  -- `Cause::number`: counted from 0; 7 and 8 exchanged
+  -- `Cause::number`: counted from 0; 7 and 8 exchanged; 22 by its place in the list
   pub number : OneAnswer Number.Post
   pub number-from-one : Tells (Number.Post tt) (ByteNotAllowed, tt) 7 6
   pub number-exchanged : Tells (Number.Post tt) (ValueNotAllowed, tt) 8 7
+  pub number-retired : Tells (Number.Post tt) (EditionRetired, tt) 22 18
   -- `Refusal::nowhere`: at the first record; another cause
   pub nowhere : OneAnswer NowhereOf.Post
   pub nowhere-record : Tells (NowhereOf.Post tt) (EditionUnknown, tt) (record { cause = EditionUnknown; «record» = 0; column = 0 }) (record { cause = EditionUnknown; «record» = 1; column = 0 })

@@ -4,17 +4,22 @@ use Prim.Native.Nat.{ℕ, _+_}
 use mathlib.Core.Path.{_≡_}
 use mathlib.Core.Logic.{_↔_}
 use mathlib.Core.List.{List, [], _∷_, _++_}
-use mathlib.Core.Bool.{true, cond}
-use lib.ListN.{length, getD}
+use mathlib.Core.Bool.{true, false, cond}
+use lib.ListN.{length, getD, replicate}
+use Rattle.refusal.specs.declared.Cause.the-variants.{EditionUnknown, EditionRetired}
 use Rattle.refusal.specs.declared.Refusal.{Refusal}
+use Rattle.refusal.specs.Nowhere.{nowhere}
 use Rattle.refusal.specs.Row.{noRefusal}
 use Rattle.lines.specs.Lines.{cut}
 use Rattle.chunks.specs.Chunks.{joinedChunks}
+use Rattle.edition.specs.Known.{current, retired, known}
 use Rattle.card_run.specs.declared.running.Running.{Running}
 use Rattle.card_run.specs.declared.answer.CardAnswer.{CardAnswer}
-use Rattle.card_run.specs.Answer.{refusedRow, cardFileRow}
+use Rattle.card_run.specs.Running.{openOf}
+use Rattle.card_run.specs.Answer.{answerOf, goingOnRow, refusedRow, cardFileRow}
+use Rattle.card_file.specs.Feeding.{fedOf}
 use Rattle.card_file.specs.CardFile.{checkOf}
-use Rattle.card_kept.specs.FirstFault.{FirstFaultOfRecord, EditionFirst, FirstFaultDecides}
+use Rattle.card_kept.specs.FirstFault.{FirstFaultOfRecord, FirstFaultDecides}
 use Rattle.card_kept.specs.Kept.{Kept, salesOf}
 use Rattle.card_kept.specs.Numbers.{TotalsOf}
 use Rattle.card_sheet.specs.SheetOf.{sheetFrom}
@@ -32,15 +37,19 @@ use Rattle.payroll_kept.specs.FirstFaultOfFile as payroll-file
 use Rattle.payroll_kept.specs.Kept as payroll
 use Rattle.sheet_numbers.specs.declared.sheet.Sheet.{Sheet}
 use Rattle.day_sheet.specs.declared.reader.SheetRead.the-variants.{Read}
+use Rattle.day_sheet.specs.declared.writer.SheetWritten.{SheetWritten}
+use Rattle.day_sheet.specs.declared.writer.SheetWritten.the-variants.{Written, Refused as notWritten}
 use Rattle.day_sheet.specs.Sheet.{bytesOf}
 use Rattle.sheet_numbers.specs.Allowed.{sheetAllowed}
 use Rattle.day_sheet.specs.Reading.{readOf}
+use Rattle.day_sheet.specs.Writing.{Writes}
 use Rattle.sheet_numbers.specs.Converted.{converted}
-use Rattle.day_sheet.specs.Conversion.{convertedBytes}
+use Rattle.day_sheet.specs.Conversion.{Converts, convertedBytes}
 use Rattle.day_sheet.specs.Answer.{readRow}
 use Rattle.demands.specs.Demands.{Demands}
+use Rattle.demands.specs.Editions.{RefusedOutright}
 use Rattle.demands.specs.Examples.{agrees, allAsWritten}
-use Rattle.demands.specs.Feeding.{FedAsWhole, RefusedForGood, BadEdition, AfterAcceptedClose, OnePastTheLast, afterTheEnd}
+use Rattle.demands.specs.Feeding.{FedAsWhole, RefusedForGood, AfterAcceptedClose, OnePastTheLast, afterTheEnd}
 use Rattle.demands.specs.HiddenDigits.{hiddenIn}
 use Rattle.demands.specs.HiddenDigitsExample.{oneFile, otherFile, oneCredit, otherCredit}
 use Rattle.demands.specs.InChunks.{cardTaken}
@@ -52,10 +61,14 @@ NotSo right Wrong = Wrong → ⊥
 pub record Variants (d : Demands) : Type 0 where
   -- of a state that is refused too
   pub record-judged : NotSo (d .record-judged) ((st : Running) (r : List ℕ) → FirstFaultOfRecord st r)
-  -- under a known edition too
-  pub edition-first : NotSo (d .edition-first) ((edition : ℕ) → EditionFirst edition)
-  -- under an edition that is not known too
-  pub file-judged : NotSo (d .file-judged) ((edition : ℕ) (file : List ℕ) → FirstFaultDecides edition file)
+  -- 1 for an edition that is retired too
+  pub edition-first : NotSo (d .edition-first) ((edition : ℕ) → current edition ≡ false → RefusedOutright edition EditionUnknown)
+  -- 22 for one that is not known too; and fed, not before the close
+  pub edition-retired : NotSo (d .edition-retired) ((edition : ℕ) → current edition ≡ false → RefusedOutright edition EditionRetired)
+  pub retired-when-fed : NotSo (d .edition-retired)
+      ((edition : ℕ) → retired edition ≡ true → (r : List ℕ) → cardFileRow (answerOf (fedOf (openOf edition) r)) ≡ goingOnRow)
+  -- under an edition that is retired too
+  pub file-judged : NotSo (d .file-judged) ((edition : ℕ) → known edition ≡ true → (file : List ℕ) → FirstFaultDecides edition file)
   -- of a state that is refused too
   pub payroll-record-judged : NotSo (d .payroll-record-judged) ((st : PayrollRunning) (r : List ℕ) → payroll-record.FirstFaultOfRecord st r)
   -- what stands behind the last LF not looked at
@@ -75,10 +88,20 @@ pub record Variants (d : Demands) : Type 0 where
       ((bytes : List ℕ) → (payrollRow (payrollCheckOf bytes) .accepted ≡ true) ↔ payroll.Kept (bytes ++ (26 ∷ [])))
   -- of numbers that are not allowed too
   pub sheet-there-and-back : NotSo (d .sheet-there-and-back .reads-back) ((s : Sheet) → readRow (readOf (bytesOf s)) ≡ readRow (Read s))
+  -- of edition 1 too: that we would write it; of a known split too: that conversion writes it; of every sheet: that none is written
+  pub the-one-we-write : NotSo (d .sheet-there-and-back .the-one-we-write)
+      ((l : List ℕ) (s : Sheet) → readRow (readOf l) ≡ readRow (Read s) → Writes s (replicate (length l) 0) Written l)
+  pub the-one-conversion-writes : NotSo (d .sheet-there-and-back .the-one-conversion-writes)
+      ((l : List ℕ) (s : Sheet) → readRow (readOf l) ≡ readRow (Read s) → Converts (convertedBytes l) (replicate (length l) 0) Written l)
+  pub none-new : NotSo (d .sheet-there-and-back .none-new) ((s : Sheet) (out : List ℕ) → Writes s out (notWritten (nowhere EditionRetired)) out)
   -- two sheets that differ, one of which is not allowed
   pub sheets-different : NotSo (d .sheet-there-and-back .different) ((s t : Sheet) → sheetAllowed s ≡ true → bytesOf s ≡ bytesOf t → s ≡ t)
   -- of bytes that are no readable sheet too
   pub sheet-converted : NotSo (d .sheet-converted .readable) ((s : Sheet) → readRow (readOf (convertedBytes (bytesOf s))) ≡ readRow (Read (converted s)))
+  -- of edition 1 too: that converting is writing
+  pub as-written : NotSo (d .sheet-converted .as-written)
+      ((l : List ℕ) (s : Sheet) → readRow (readOf l) ≡ readRow (Read s) → (out : List ℕ) (answer : SheetWritten) (after : List ℕ) →
+      Converts l out answer after → Writes (converted s) out answer after)
   -- from version 2 and back, also where the split is known
   pub from-two-and-back : NotSo (d .sheet-converted .from-two-and-back)
       ((l : List ℕ) → readRow (readOf l) .refusal ≡ noRefusal → convertedBytes (convertedBytes l) ≡ l)
@@ -90,8 +113,6 @@ pub record Variants (d : Demands) : Type 0 where
   pub fed-as-whole : NotSo (d .fed-as-whole) ((edition : ℕ) (records : List (List ℕ)) → FedAsWhole edition records)
   -- of a state that is not refused too
   pub refused-for-good : NotSo (d .refused-for-good) ((st : Running) (refusal : Refusal) → RefusedForGood st refusal)
-  -- under a known edition too
-  pub bad-edition : NotSo (d .bad-edition) ((edition : ℕ) → BadEdition edition)
   -- of a file that is not accepted too
   pub after-accepted-close : NotSo (d .after-accepted-close) ((st : Running) → AfterAcceptedClose st)
   pub one-past-the-last : NotSo (d .one-past-the-last) ((edition : ℕ) (records : List (List ℕ)) → OnePastTheLast edition records)

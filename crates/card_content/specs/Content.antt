@@ -1,7 +1,7 @@
 -- What a field may hold, as rules: 7, "byte not allowed in its field", before 8, "field's value not allowed".
 use Prim.Native.Nat.{ℕ}
 use mathlib.Core.List.{List, [], _∷_}
-use mathlib.Core.Bool.{Bool, cond, _||_}
+use mathlib.Core.Bool.{Bool, cond, _&&_, _||_}
 use lib.ListN.{replicate}
 use lib.Dec.{eqb}
 use Rattle.refusal.specs.declared.Cause.the-variants.{ByteNotAllowed, ValueNotAllowed}
@@ -22,13 +22,17 @@ use Rattle.card_content.specs.declared.content.Content.the-variants.{Dig
 abbrev pub isCurrency : List ℕ → Bool
 isCurrency p = sameBytes p (ascii "RE") || (sameBytes p (ascii "DO") || (sameBytes p (ascii "PE") || sameBytes p (ascii "  ")))
 
--- "capture 54 (1 to 9, and 7 only under edition 2)"
-abbrev pub isCapture : ℕ → List ℕ → Bool
-isCapture edition p = oneByteOf (cond (eqb edition 2) (ascii "123456789") (ascii "12345689")) p
+-- a set that goes by the edition has a row for each under which files are read: these bytes under this edition, and none under another
+abbrev pub inRow : ℕ → List ℕ → ℕ → List ℕ → Bool
+inRow row values edition p = eqb edition row && oneByteOf values p
 
--- the capture of an AJ, as document 003 prints it: 1 to 7 and 9; 7 only under edition 2, as in CV
+-- "capture 54 (1 to 9 ..)"
+abbrev pub isCapture : ℕ → List ℕ → Bool
+isCapture = inRow 2 (ascii "123456789")
+
+-- the capture of an AJ, as document 003 prints it: 1 to 7 and 9
 abbrev pub isAdjustmentCapture : ℕ → List ℕ → Bool
-isAdjustmentCapture edition p = oneByteOf (cond (eqb edition 2) (ascii "12345679") (ascii "1234569")) p
+isAdjustmentCapture = inRow 2 (ascii "12345679")
 
 -- the closed sets, the capture and the type of an adjustment among them
 unfoldable pub inSet : ClosedSet → ℕ → List ℕ → Bool

@@ -3,8 +3,7 @@ ghost use mathlib.Core.Path.{_≡_};
 ghost use Rattle.refusal.specs.Rules.{firstBroken};
 ghost use Rattle.card_content.specs.Content.{
   isCurrency,
-  isCapture,
-  isAdjustmentCapture,
+  inRow,
   inSet,
   dayOrZerosRules,
   cardOrBlanksRules,
@@ -58,26 +57,11 @@ fn is_currency(part: &[u8]) -> bool
     text::literal::equals(part, b"  ")
 }
 
-// Whether a part is a capture of a sale: 7 only under edition 2.
-fn is_capture(edition: u64, part: &[u8]) -> bool
-    ensures { λ r. ⌜ r ≡ isCapture edition (now (part .entry)) ⌝ }
+// Whether a part is one of the values that an edition's row gives: none under another edition.
+fn is_in_row(row: u64, values: &[u8], edition: u64, part: &[u8]) -> bool
+    ensures { λ r. ⌜ r ≡ inRow row (now (values .entry)) edition (now (part .entry)) ⌝ }
 {
-    if edition == 2 {
-        text::literal::is_one_of(part, b"123456789")
-    } else {
-        text::literal::is_one_of(part, b"12345689")
-    }
-}
-
-// Whether a part is a capture of an adjustment: no 8, and 7 only under edition 2.
-fn is_adjustment_capture(edition: u64, part: &[u8]) -> bool
-    ensures { λ r. ⌜ r ≡ isAdjustmentCapture edition (now (part .entry)) ⌝ }
-{
-    if edition == 2 {
-        text::literal::is_one_of(part, b"12345679")
-    } else {
-        text::literal::is_one_of(part, b"1234569")
-    }
+    edition == row && text::literal::is_one_of(part, values)
 }
 
 // Whether a part is a value of a closed set. Only captures go by the edition.
@@ -90,8 +74,8 @@ pub fn is_in_set(set: ClosedSet, edition: u64, part: &[u8]) -> bool
         ClosedSet::Currency => is_currency(part),
         ClosedSet::LaunchType => text::literal::is_one_of(part, b"012"),
         ClosedSet::Product => text::literal::is_one_of(part, b"CDV"),
-        ClosedSet::Capture => is_capture(edition, part),
-        ClosedSet::AdjustmentCapture => is_adjustment_capture(edition, part),
+        ClosedSet::Capture => is_in_row(2, b"123456789", edition, part),
+        ClosedSet::AdjustmentCapture => is_in_row(2, b"12345679", edition, part),
         ClosedSet::AdjustmentType => text::literal::is_one_of(part, b"12"),
     }
 }

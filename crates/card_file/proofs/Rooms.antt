@@ -1,28 +1,59 @@
--- A file that is accepted by a question that writes has room, and the check accepted it.
+-- A file that is accepted by a question that writes has room, and the check accepted it; under an edition that is refused the question refuses every file, whatever its room.
 use Prim.Native.Nat.{ℕ, _≤_}
-use mathlib.Core.Path.{_≡_, refl}
-use mathlib.Core.List.{List}
-use mathlib.Core.Bool.{Bool, true, false, cond}
+use mathlib.Core.Path.{_≡_, refl, sym, _∙_, ap}
+use mathlib.Core.List.{List, [], _∷_}
+use mathlib.Core.Bool.{Bool, true, false}
 use lib.Dec.{leb}
 use borrow.Author.Tests.{leb-true}
-use Rattle.refusal.specs.declared.Refusal.{Refusal}
-use Rattle.edition.specs.Known.{known}
+use Rattle.refusal.specs.declared.Cause.{Cause}
+use Rattle.refusal.specs.declared.Cause.the-variants.{OutputTooShort}
+use Rattle.refusal.specs.declared.Fault.{Fault}
+use Rattle.refusal.specs.declared.Fault.the-variants.{Nothing, At}
+use Rattle.refusal.specs.Fault.{ruleOf, earlierOf}
+use Rattle.refusal.specs.Nowhere.{nowhere}
+use Rattle.refusal.specs.Rules.{ruleAt, firstBroken}
+use Rattle.refusal.proofs.Rules.{in-a-row}
+use Rattle.refusal.proofs.Faults.{nothing-second}
+use Rattle.edition.specs.Known.{editionRules, editionFault}
 use Rattle.card_run.specs.declared.answer.Accepted.{Accepted as Numbers}
-use Rattle.card_run.specs.declared.answer.CardAnswer.{CardAnswer}
 use Rattle.card_run.specs.declared.answer.CardAnswer.the-variants.{Accepted, Refused}
 use Rattle.card_file.specs.CardFile.{checkOf}
-use Rattle.card_file.specs.Room.{answerWithRoom}
+use Rattle.card_file.specs.Room.{roomRules, answerBehind, answerWithRoom}
 
-accepts : (p q : Bool) (x : CardAnswer) (a : Numbers) (r s : Refusal) → cond p (cond q x (Refused r)) (Refused s) ≡ Accepted a → (q ≡ true) × (x ≡ Accepted a)
-accepts true true x a r s e = (refl, e)
-accepts true false x a r s e = (cc, cc)
-accepts false q x a r s e = (cc, cc)
+-- the fault before any record: the edition's, then that of the room
+pub room-fault : (edition need room : ℕ) → firstBroken (roomRules edition need room) ≡ earlierOf (editionFault edition) (ruleOf OutputTooShort 0 (leb need room))
+unfolding firstBroken
+room-fault edition need room =
+    let fits = ruleAt OutputTooShort 0 (leb need room) in
+    in-a-row (editionRules edition) (fits ∷ []) ∙ ap (earlierOf (editionFault edition)) (nothing-second _)
 
-module _ (edition : ℕ) (file : List ℕ) (need room : ℕ) (a : Numbers) (e : answerWithRoom edition file need room ≡ Accepted a) where
-  pub has-room : need ≤ room
+-- a question that writes, by that fault
+module _ (edition : ℕ) (file : List ℕ) (need room : ℕ) where
+  pub none-found : firstBroken (roomRules edition need room) ≡ Nothing → answerWithRoom edition file need room ≡ checkOf edition file
   unfolding answerWithRoom
-  has-room = leb-true need room (accepts (known edition) (leb need room) _ a _ _ e .0)
+  none-found e = rw e
 
-  pub was-checked : checkOf edition file ≡ Accepted a
+  pub one-found : {cause : Cause} {column : ℕ} → firstBroken (roomRules edition need room) ≡ At cause column → answerWithRoom edition file need room ≡ Refused (nowhere cause)
   unfolding answerWithRoom
-  was-checked = accepts (known edition) (leb need room) _ a _ _ e .1
+  one-found e = rw e
+
+  -- under an edition that is refused
+  pub edition-refused : {cause : Cause} {column : ℕ} → editionFault edition ≡ At cause column → answerWithRoom edition file need room ≡ Refused (nowhere cause)
+  edition-refused e = one-found (room-fault edition need room ∙ ap (λ f. earlierOf f (ruleOf OutputTooShort 0 (leb need room))) e)
+
+  -- accepted
+  module _ (a : Numbers) (e : answerWithRoom edition file need room ≡ Accepted a) where
+    accepts : (f : Fault) (q : Bool) → answerBehind (earlierOf f (ruleOf OutputTooShort 0 q)) (checkOf edition file) ≡ Accepted a → (q ≡ true) × (checkOf edition file ≡ Accepted a)
+    accepts Nothing true e = (refl, e)
+    accepts Nothing false e = (cc, cc)
+    accepts (At cause column) q e = (cc, cc)
+
+    accepted : (leb need room ≡ true) × (checkOf edition file ≡ Accepted a)
+    unfolding answerWithRoom
+    accepted = accepts (editionFault edition) (leb need room) (ap (λ f. answerBehind f (checkOf edition file)) (sym (room-fault edition need room)) ∙ e)
+
+    pub has-room : need ≤ room
+    has-room = leb-true need room (accepted .0)
+
+    pub was-checked : checkOf edition file ≡ Accepted a
+    was-checked = accepted .1

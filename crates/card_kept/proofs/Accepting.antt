@@ -5,7 +5,8 @@ use mathlib.Core.List.{List, [], _∷_, _++_}
 use mathlib.Core.Bool.{true}
 use native.Mathlib.Omega.{arith}
 use lib.ListN.{length, length-append}
-use Rattle.edition.specs.Known.{known}
+use Rattle.edition.specs.Known.{current}
+use Rattle.edition.proofs.Editions.{current-fault}
 use Rattle.totals.specs.TwoSets.{setsOf}
 use Rattle.totals.proofs.Totals.{figure-of-none}
 use Rattle.card_record.specs.declared.kind.Kind.the-variants.{A0, A9}
@@ -15,7 +16,7 @@ use Rattle.card_run.specs.declared.answer.Accepted.{Accepted}
 use Rattle.card_run.specs.declared.answer.CardAnswer.the-variants.{Accepted as accepted}
 use Rattle.card_run.specs.Stage.{placed}
 use Rattle.card_run.specs.Batch.{noTransaction}
-use Rattle.card_run.specs.Running.{openOf, openStage, moved, closedAt, closedOf}
+use Rattle.card_run.specs.Running.{openAt, openStage, openOf, moved, closedAt, closedOf}
 use Rattle.card_file.specs.Feeding.{fedOf, fedAll}
 use Rattle.card_run.specs.Answer.{answerAt, answerOf}
 use Rattle.card_file.specs.CardFile.{endOf, ranOf, checkOf}
@@ -30,9 +31,9 @@ use Rattle.card_kept.proofs.PlainSteps.{same-at, after, behindPlain, Sm
 use Rattle.card_kept.proofs.OneLine.{file-cut}
 use Rattle.card_kept.proofs.Batches.{fed-row, lines-are, Comes, comes, lastBatch, batches-taken}
 
--- a known edition is open
-opens : (e : ℕ) → known e ≡ true → openStage e ≡ Start
-opens e h = rw h
+-- a current edition is open
+opens : (e : ℕ) → current e ≡ true → openStage e ≡ Start
+opens e h = ap openAt (current-fault e h)
 
 pub open-small : (e : ℕ) → Small (openOf e)
 open-small e =
@@ -63,12 +64,12 @@ plainNumbers f =
 abbrev pub ended : ℕ → File → Running
 ended e f = moved Ended (plainNumbers f) (lastBatch noTransaction (f .batches)) (openOf e)
 
-pub file-taken : (e : ℕ) (f : File) → known e ≡ true → FileKept e f → Comes (fedAll (openOf e) (recordsOf f)) (ended e f)
+pub file-taken : (e : ℕ) (f : File) → current e ≡ true → FileKept e f → Comes (fedAll (openOf e) (recordsOf f)) (ended e f)
 unfolding fedAll
-file-taken e f is-known k =
+file-taken e f is-current k =
     let start = openOf e in
     let begun = behindPlain A0 start (f .a0) in
-    let first = step start (f .a0) (open-small e) A0 (ap (λ s. placed s A0) (opens e is-known)) (k .a0) in
+    let first = step start (f .a0) (open-small e) A0 (ap (λ s. placed s A0) (opens e is-current)) (k .a0) in
     let batches = batches-taken (f .batches) begun (still-small start (f .a0) (open-small e) A0 (k .a0)) refl (k .batches) in
     let full = after begun BetweenBatches (1 + length (batchesRecords (f .batches))) (0 + length (f .batches)) (transactionsOf f) (lastBatch noTransaction (f .batches)) in
     let number : 2 + length (batchesRecords (f .batches)) ≡ suc (1 + length (batchesRecords (f .batches))) = omega arith in
@@ -91,4 +92,4 @@ unfolding endOf closedAt answerAt
 kept-accepted e bytes k =
     let f = k .file in
     ap (checkOf e) (k .is) ∙ ap (λ ls. answerOf (ranOf (openOf e) ls)) (file-cut e f (k .keeps)) ∙
-    ap (λ st. answerOf (closedOf st)) (lines-are (openOf e) (recordsOf f) ∙ file-taken e f (k .edition-known) (k .keeps) .is)
+    ap (λ st. answerOf (closedOf st)) (lines-are (openOf e) (recordsOf f) ∙ file-taken e f (k .edition-current) (k .keeps) .is)

@@ -6,7 +6,6 @@ use mathlib.Core.List.{List, [], _∷_, _++_, map}
 use mathlib.Core.Bool.{true, false, true≢false, false≢true}
 use lib.ListN.{length}
 use Rattle.refusal.specs.declared.Cause.{Cause}
-use Rattle.refusal.specs.declared.Cause.the-variants.{EditionUnknown}
 use Rattle.refusal.specs.declared.Fault.{Fault}
 use Rattle.refusal.specs.declared.Fault.the-variants.{Nothing, At}
 use Rattle.refusal.specs.declared.Refusal.{Refusal}
@@ -15,17 +14,18 @@ use Rattle.refusal.specs.Rules.{firstBroken, allHold}
 use Rattle.refusal.proofs.Rules.{all-hold, none-broken, is-first}
 use Rattle.text.proofs.Alphabets.{both, both-left, both-right}
 use Rattle.lines.specs.Lines.{cut}
-use Rattle.edition.specs.Known.{known}
+use Rattle.edition.specs.Known.{current, editionFault}
+use Rattle.edition.proofs.Editions.{current-fault}
 use Rattle.card_run.specs.declared.stage.Stage.{Stage}
 use Rattle.card_run.specs.declared.stage.Stage.the-variants.{Start, BetweenBatches, InBatch, Ended, Closed, Refused}
 use Rattle.card_run.specs.declared.running.Running.{Running}
 use Rattle.card_run.specs.declared.answer.CardAnswer.the-variants.{Refused as refused}
-use Rattle.card_run.specs.Running.{openOf, nextNumber, closedAt}
+use Rattle.card_run.specs.Running.{openAt, openOf, nextNumber, closedAt}
 use Rattle.card_run.specs.Answer.{answerAt, answerOf, cardFileRow}
 use Rattle.card_file.specs.Feeding.{fedOf}
 use Rattle.card_file.specs.CardFile.{lineOf, linesOf, endOf, checkOf}
 use Rattle.card_run.proofs.FileRows.{same-answer, isRefusal, isAccepted, refusal-told, accepted-told}
-use Rattle.card_kept.specs.FirstFault.{ended, endRule, RefusedBy, FirstFaultOfRecord, Next, piece, rest, nextRules, piecesHold, FirstFaultOfFile, AllHoldInFile, EditionFirst, FirstFaultDecides}
+use Rattle.card_kept.specs.FirstFault.{ended, endRule, RefusedBy, FirstFaultOfRecord, Next, piece, rest, nextRules, piecesHold, FirstFaultOfFile, AllHoldInFile, FirstFaultDecides}
 use Rattle.card_kept.proofs.Stays as stays
 use Rattle.card_kept.proofs.Standing.{next-number, reached, lines-open}
 use Rattle.card_kept.proofs.Outcomes.{Outcome, of-record, of-piece, of-rest, by-refused, refused-exactly, not-refused-exactly}
@@ -43,13 +43,12 @@ first-fault-of-record st r going =
       is-not = (λ e. not-refused-exactly o .0 (told .1 e), λ h. told .0 (not-refused-exactly o .1 h));
     }
 
--- THE THEOREM of a bad edition
-pub edition-first : (edition : ℕ) → known edition ≡ false → EditionFirst edition
-unfolding cardFileRow
-edition-first edition bad file =
-    let e = stays.bad-edition-opens edition bad in
-    let x = nowhere EditionUnknown in
-    ap cardFileRow (ap answerOf (stays.ran x (openOf edition) (cut file) (stays.stage-of (openOf edition) x e)) ∙ e)
+-- THE THEOREM of an edition with a fault: it refuses every file
+pub edition-first : (edition : ℕ) {cause : Cause} {column : ℕ} → editionFault edition ≡ At cause column → (file : List ℕ) → checkOf edition file ≡ refused (nowhere cause)
+edition-first edition {cause = cause} bad file =
+    let x = nowhere cause in
+    let e = stays.edition-refused edition bad in
+    ap answerOf (stays.ran x (openOf edition) (cut file) e) ∙ stays.answer-of (openOf edition) x e
 
 -- a first place that breaks a rule, among the pieces and the rest that a run goes over
 record Breaks (st : Running) (ps : List (List ℕ)) (left : List ℕ) (x : Refusal) : Type 0 where
@@ -171,19 +170,19 @@ end-accepted st [] h = by (st .stage) refl (both-left (ended (st .stage)) true h
     by (Refused x) e t = absurd (false≢true t)
 end-accepted st (b ∷ s) h = absurd (false≢true (both-right (endRule st .holds) false h))
 
--- the edition is known: the run is not refused from the start
-known-opens : (edition : ℕ) → known edition ≡ true → isRefusal (answerOf (openOf edition)) ≡ false
+-- the edition is current: the run is not refused from the start
+current-opens : (edition : ℕ) → current edition ≡ true → isRefusal (answerOf (openOf edition)) ≡ false
 unfolding answerAt
-known-opens edition e = rw e
+current-opens edition e = ap (λ f. isRefusal (answerAt (openAt f) (openOf edition))) (current-fault edition e)
 
-module _ (edition : ℕ) (is-known : known edition ≡ true) (file : List ℕ) where
+module _ (edition : ℕ) (is-current : current edition ≡ true) (file : List ℕ) where
   -- behind pieces that keep the rules, the record that comes next is one past them
   next-after : (earlier : List (List ℕ)) → piecesHold (openOf edition) earlier ≡ true →
       nextNumber (linesOf (openOf edition) earlier) ≡ suc (length earlier)
   next-after earlier hold =
       let st = linesOf (openOf edition) earlier in
       next-number st (length earlier)
-      (reached 0 (length earlier) st (lines-open edition earlier) (goes-on (openOf edition) earlier (known-opens edition is-known) hold))
+      (reached 0 (length earlier) st (lines-open edition earlier) (goes-on (openOf edition) earlier (current-opens edition is-current) hold))
 
   is-first-fault : (x : Refusal) → Breaks (openOf edition) (cut file .pieces) (cut file .rest) x → FirstFaultOfFile edition file x
   is-first-fault x w =
@@ -210,7 +209,7 @@ module _ (edition : ℕ) (is-known : known edition ≡ true) (file : List ℕ) w
 
   -- each verdict's answer
   breaks-answer : (x : Refusal) → Breaks (openOf edition) (cut file .pieces) (cut file .rest) x → checkOf edition file ≡ refused x
-  breaks-answer = breaks-refused (openOf edition) (known-opens edition is-known) (cut file .pieces) (cut file .rest)
+  breaks-answer = breaks-refused (openOf edition) (current-opens edition is-current) (cut file .pieces) (cut file .rest)
 
   keeps-answer : allHold (nextRules (linesOf (openOf edition) (cut file .pieces)) (rest (cut file .rest))) ≡ true → isAccepted (checkOf edition file) ≡ true
   keeps-answer = end-accepted (linesOf (openOf edition) (cut file .pieces)) (cut file .rest)

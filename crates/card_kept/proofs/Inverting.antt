@@ -2,22 +2,22 @@
 use Prim.Native.Nat.{ℕ}
 use mathlib.Core.Path.{_≡_, refl, sym, _∙_, ap, ap₂, subst}
 use mathlib.Core.List.{List, [], _∷_, map, append-nil}
-use mathlib.Core.Bool.{Bool, true, false, cond, false≢true}
-use Rattle.refusal.specs.declared.Cause.the-variants.{EditionUnknown}
+use mathlib.Core.Bool.{true, false≢true}
+use Rattle.refusal.specs.declared.Fault.{Fault}
+use Rattle.refusal.specs.declared.Fault.the-variants.{Nothing, At}
 use Rattle.refusal.specs.declared.Refusal.{Refusal}
-use Rattle.refusal.specs.Nowhere.{nowhere}
 use Rattle.text.proofs.Alphabets.{both-left, both-right}
 use Rattle.lines.specs.Lines.{noLf, allNoLf, withCr, rejoined, cut}
 use Rattle.lines.proofs.Cuts.{cut-is-cut, records-are-pieces, with-cr-clear}
-use Rattle.edition.specs.Known.{known}
+use Rattle.edition.specs.Known.{current, editionFault}
+use Rattle.edition.proofs.Editions.{fault-current}
 use Rattle.card_record.specs.declared.kind.Kind.{Kind}
 use Rattle.card_record.specs.declared.kind.Kind.the-variants.{A0, L0, Cv, Aj, L9, A9}
-use Rattle.card_run.specs.declared.stage.Stage.{Stage}
 use Rattle.card_run.specs.declared.stage.Stage.the-variants.{Start, Refused}
 use Rattle.card_run.specs.declared.answer.Accepted.{Accepted}
 use Rattle.card_run.specs.declared.answer.CardAnswer.the-variants.{Accepted as accepted}
 use Rattle.card_run.specs.Stage.{placed}
-use Rattle.card_run.specs.Running.{openOf, openStage}
+use Rattle.card_run.specs.Running.{openAt, openStage, openOf}
 use Rattle.card_file.specs.CardFile.{checkOf}
 use Rattle.card_kept.specs.Kept.{File, recordsOf, FileKept, Kept}
 use Rattle.card_kept.proofs.Next.{NextKept}
@@ -27,17 +27,13 @@ use Rattle.card_kept.proofs.Accepting.{open-small}
 use Rattle.card_kept.proofs.Refused.{EndsAccepted, alive, piece, too-early}
 use Rattle.card_kept.proofs.Left.{BatchesLeft, went-on, says}
 
--- an edition that is not refused is known
-opened : Bool → Stage
-opened p = cond p Start (Refused (nowhere EditionUnknown))
-
-is-known : (e : ℕ) → Alive (openOf e) → (openStage e ≡ Start) × (known e ≡ true)
-unfolding opened
-is-known e goes = by (known e) refl goes
+-- an edition that is not refused is current
+is-current : (e : ℕ) → Alive (openOf e) → (openStage e ≡ Start) × (current e ≡ true)
+is-current e goes = by (editionFault e) refl goes
   where
-    by : (p : Bool) → known e ≡ p → ((x : Refusal) → opened p ≡ Refused x → ⊥) → (opened p ≡ Start) × (known e ≡ true)
-    by true q goes = (refl, q)
-    by false q goes = absurd (goes _ refl)
+    by : (f : Fault) → editionFault e ≡ f → ((x : Refusal) → openAt f ≡ Refused x → ⊥) → (openAt f ≡ Start) × (current e ≡ true)
+    by Nothing q goes = (refl, fault-current e q)
+    by (At cause column) q goes = absurd (goes _ refl)
 
 -- pieces and a rest are a file that keeps the rules
 record Whole (e : ℕ) (ps : List (List ℕ)) (rest : List ℕ) : Type 0 where
@@ -84,10 +80,10 @@ pub accepted-kept : (e : ℕ) (bytes : List ℕ) (a : Accepted) → checkOf e by
 accepted-kept e bytes a h =
     let ls = cut bytes in
     let c = cut-is-cut bytes in
-    let is = is-known e (alive (openOf e) (ls .pieces) (ls .rest) a h) in
+    let is = is-current e (alive (openOf e) (ls .pieces) (ls .rest) a h) in
     let w = whole e (ls .pieces) (ls .rest) a (is .0) (c .pieces-clear) h in
     record {
-      edition-known = is .1;
+      edition-current = is .1;
       file = w .file;
       keeps = w .keeps;
       is = sym (c .whole) ∙ ap₂ rejoined (w .is) (w .none-left) ∙ sym (records-are-pieces (recordsOf (w .file)) []) ∙ append-nil _;

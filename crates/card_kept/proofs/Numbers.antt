@@ -86,7 +86,7 @@ pub plain : (e : ℕ) (bytes : List ℕ) (k : Kept e bytes) → Numbers (k .file
 plain e bytes k =
     let f = k .file in
     let kept = k .keeps .batches in
-    let small = file-taken e f (k .edition-known) (k .keeps) .small in
+    let small = file-taken e f (k .edition-current) (k .keeps) .small in
     let parted = of-batches e Parted parted-none (parted-one e) parted-row 2 (f .batches) kept in
     let each = part-within _ (plainTotals (forecastsOf f)) (plainTotals (settledOf f)) (small .totals) in
     record {

@@ -9,10 +9,8 @@ use native.Mathlib.Omega.{arith}
 use lib.ListN.{length}
 use lib.Dec.{eqb}
 use borrow.Author.Tests.{eqb-true}
-use Rattle.refusal.specs.declared.Cause.the-variants.{EditionUnknown}
 use Rattle.refusal.specs.declared.Fault.{Fault}
-use Rattle.refusal.specs.Nowhere.{nowhere}
-use Rattle.edition.specs.Known.{known}
+use Rattle.edition.specs.Known.{editionFault}
 use Rattle.refusal.specs.declared.Fault.the-variants.{Nothing, At}
 use Rattle.refusal.specs.Rules.{Rule, firstBroken, allHold}
 use Rattle.refusal.proofs.Rules.{all-hold}
@@ -39,7 +37,7 @@ use Rattle.card_run.specs.declared.stage.Stage.{Stage}
 use Rattle.card_run.specs.declared.stage.Stage.the-variants.{Start, BetweenBatches, InBatch, Ended, Closed, Refused}
 use Rattle.card_run.specs.declared.running.Running.{Running}
 use Rattle.card_run.specs.Stage.{placed}
-use Rattle.card_run.specs.Running.{openOf, nextNumber, lateAt}
+use Rattle.card_run.specs.Running.{openAt, openOf, nextNumber, lateAt}
 use Rattle.card_step.specs.Rules.{nseqRule, joinedAt, rulesOf}
 use Rattle.card_step.specs.Behind.{behind}
 use Rattle.card_step.specs.Step.{behindOrRefused, judgedOf, tookAt}
@@ -68,11 +66,11 @@ Stands k n st = StandsAt k n (st .stage) st
 
 -- at the start
 pub opened : (edition : ℕ) → Stands 0 0 (openOf edition)
-opened edition = by (known edition)
+opened edition = by (editionFault edition)
   where
-    by : (is-known : Bool) → StandsAt 0 0 (cond is-known Start (Refused (nowhere EditionUnknown))) (openOf edition)
-    by true = record { counts = refl; room = omega arith }
-    by false = (omega arith, omega arith)
+    by : (f : Fault) → StandsAt 0 0 (openAt f) (openOf edition)
+    by Nothing = record { counts = refl; room = omega arith }
+    by (At cause column) = (omega arith, omega arith)
 
 module _ (st : Running) (n : ℕ) (reached : Reached n st) where
   -- the next number is one more

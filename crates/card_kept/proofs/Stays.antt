@@ -3,17 +3,18 @@ use Prim.Native.Nat.{ℕ}
 use mathlib.Core.Path.{_≡_, refl, _∙_, ap}
 use mathlib.Core.List.{List, [], _∷_}
 use mathlib.Core.Bool.{Bool, true, false, cond}
-use Rattle.refusal.specs.declared.Cause.the-variants.{EditionUnknown}
+use Rattle.refusal.specs.declared.Cause.{Cause}
+use Rattle.refusal.specs.declared.Fault.the-variants.{At}
 use Rattle.refusal.specs.declared.Refusal.{Refusal}
 use Rattle.refusal.specs.Nowhere.{nowhere}
-use Rattle.edition.specs.Known.{known}
+use Rattle.edition.specs.Known.{editionFault}
 use Rattle.lines.specs.Lines.{Lines, endsInCr, withoutLast}
 use Rattle.card_record.specs.Reading.{readingOf}
 use Rattle.card_run.specs.declared.stage.Stage.{Stage}
 use Rattle.card_run.specs.declared.stage.Stage.the-variants.{Start, BetweenBatches, InBatch, Ended, Closed, Refused}
 use Rattle.card_run.specs.declared.running.Running.{Running}
 use Rattle.card_run.specs.declared.answer.CardAnswer.the-variants.{Refused as refused}
-use Rattle.card_run.specs.Running.{openOf, closedAt, closedOf, lateAt}
+use Rattle.card_run.specs.Running.{openAt, openStage, closedAt, closedOf, lateAt}
 use Rattle.card_step.specs.Step.{tookAt}
 use Rattle.card_file.specs.Feeding.{fedOf, fedAll}
 use Rattle.card_run.specs.Answer.{answerAt, answerOf}
@@ -37,10 +38,9 @@ pub answer-of : (st : Running) (x : Refusal) → st .stage ≡ Refused x → ans
 unfolding answerAt
 answer-of st x e = ap (λ s. answerAt s st) e
 
--- an edition that is not known is refused from the start
-pub bad-edition-opens : (edition : ℕ) → known edition ≡ false → answerOf (openOf edition) ≡ refused (nowhere EditionUnknown)
-unfolding answerAt
-bad-edition-opens edition bad = rw bad
+-- an edition with a fault is refused from the start
+pub edition-refused : (edition : ℕ) {cause : Cause} {column : ℕ} → editionFault edition ≡ At cause column → openStage edition ≡ Refused (nowhere cause)
+edition-refused edition e = ap openAt e
 
 module _ (x : Refusal) where
   pub fed : (st : Running) (r : List ℕ) → st .stage ≡ Refused x → fedOf st r ≡ st

@@ -5,7 +5,7 @@ use mathlib.Core.Logic.{_↔_}
 use mathlib.Core.List.{List, [], _∷_, _++_, map}
 use mathlib.Core.Bool.{Bool, true, false, not, _&&_}
 use lib.ListN.{length}
-use Rattle.refusal.specs.declared.Cause.the-variants.{EditionUnknown, NoLineEnd, KindUnknown, EndsTooEarly, BytesAfterTheEnd}
+use Rattle.refusal.specs.declared.Cause.the-variants.{NoLineEnd, KindUnknown, EndsTooEarly, BytesAfterTheEnd}
 use Rattle.refusal.specs.declared.Refusal.{Refusal}
 use Rattle.refusal.specs.Rules.{Rule, ruleAt, allHold, FirstBroken}
 use Rattle.lines.specs.Lines.{Lines, cut, endsInCr, withoutLast}
@@ -21,7 +21,6 @@ use Rattle.card_step.specs.Rules.{placedRules}
 use Rattle.card_file.specs.Feeding.{fedOf}
 use Rattle.card_run.specs.Answer.{answerOf, refusedRow, cardFileRow}
 use Rattle.card_file.specs.CardFile.{lineOf, linesOf, checkOf}
-use Rattle.refusal.specs.Nowhere.{nowhere}
 use Rattle.refusal.specs.Row.{noRefusal}
 
 -- whether A9 has come
@@ -105,11 +104,7 @@ pub record AllHoldInFile (edition : ℕ) (file : List ℕ) : Type 0 where
   pub pieces-hold : piecesHold (openOf edition) (cut file .pieces) ≡ true
   pub rest-holds : allHold (nextRules (linesOf (openOf edition) (cut file .pieces)) (rest (cut file .rest))) ≡ true
 
--- "Order: 1, then ..": whatever the file is
-abbrev pub EditionFirst : ℕ → Type 0
-EditionFirst edition = (file : List ℕ) → cardFileRow (checkOf edition file) ≡ refusedRow (nowhere EditionUnknown)
-
--- a file read whole under an edition that is known: the first fault decides, and nothing else
+-- a file read whole under an edition that is current: the first fault decides, and nothing else
 pub record FirstFaultDecides (edition : ℕ) (file : List ℕ) : Type 0 where
   pub is-refused : (refusal : Refusal) → (cardFileRow (checkOf edition file) ≡ refusedRow refusal) ↔ FirstFaultOfFile edition file refusal
   pub is-accepted : (cardFileRow (checkOf edition file) .accepted ≡ true) ↔ AllHoldInFile edition file

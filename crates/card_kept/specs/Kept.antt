@@ -6,7 +6,7 @@ use mathlib.Core.Bool.{Bool, true, false, cond, _||_}
 use lib.ListN.{length}
 use lib.Dec.{eqb}
 use Rattle.lines.specs.Lines.{joined}
-use Rattle.edition.specs.Known.{known}
+use Rattle.edition.specs.Known.{current}
 use Rattle.card_kept.specs.Sale.{launchType, payableGross}
 use Rattle.card_kept.specs.Adjustment.{adjustmentType, adjustmentNet}
 use Rattle.card_kept.specs.Records.{A0Kept, L0Kept, CvKept, AjKept, L9Kept, A9Kept}
@@ -107,9 +107,9 @@ pub record FileKept (edition : ℕ) (f : File) : Type 0 where
   pub batches : BatchesKept edition 2 (f .batches)
   pub a9 : A9Kept edition (2 + length (batchesRecords (f .batches))) (f .a9)
 
--- bytes keep document 01's rules under an edition: it is known, and they are such a file's records, each followed by CR LF, joined
+-- bytes keep document 01's rules under an edition: it is 2, and they are such a file's records, each followed by CR LF, joined
 pub record Kept (edition : ℕ) (bytes : List ℕ) : Type 0 where
-  pub edition-known : known edition ≡ true
+  pub edition-current : current edition ≡ true
   pub file : File
   pub keeps : FileKept edition file
   pub is : bytes ≡ joined (recordsOf file)

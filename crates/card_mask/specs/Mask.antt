@@ -1,4 +1,4 @@
--- Masking a file: 1; 2 for an output shorter than the file, before any record; then the file's own refusals.
+-- Masking a file: 1 and 22; 2 for an output shorter than the file, before any record; then the file's own refusals.
 use Prim.Native.Nat.{ℕ}
 use mathlib.Core.Path.{_≡_}
 use mathlib.Core.List.{List, _++_}

@@ -1,13 +1,14 @@
 -- The running state: at which stage it opens, is refused, and is closed.
 use Prim.Native.Nat.{ℕ}
-use mathlib.Core.Bool.{cond}
 use Rattle.refusal.specs.declared.Cause.{Cause}
-use Rattle.refusal.specs.declared.Cause.the-variants.{EditionUnknown, EndsTooEarly, BytesAfterTheEnd}
+use Rattle.refusal.specs.declared.Cause.the-variants.{EndsTooEarly, BytesAfterTheEnd}
+use Rattle.refusal.specs.declared.Fault.{Fault}
+use Rattle.refusal.specs.declared.Fault.the-variants.{Nothing, At}
 use Rattle.refusal.specs.Nowhere.{nowhere}
 use Rattle.totals.specs.declared.two_sets.TwoSets.{TwoSets}
 use Rattle.totals.specs.Sum.{capped}
 use Rattle.totals.specs.TwoSets.{noSets}
-use Rattle.edition.specs.Known.{known}
+use Rattle.edition.specs.Known.{editionFault}
 use Rattle.card_run.specs.declared.stage.Stage.{Stage}
 use Rattle.card_run.specs.declared.stage.Stage.the-variants.{Start, BetweenBatches, InBatch, Ended, Closed, Refused}
 use Rattle.card_run.specs.declared.adjusted.Adjusted.{Adjusted}
@@ -17,9 +18,13 @@ use Rattle.card_run.specs.declared.running.Running.{Running}
 use Rattle.card_run.specs.Adjusted.{noAdjustment}
 use Rattle.card_run.specs.Batch.{noTransaction}
 
--- "A bad edition is refused, 1, from the start"
+-- "A bad edition is refused, 1, from the start", and a retired one by 22
+abbrev pub openAt : Fault → Stage
+openAt Nothing = Start
+openAt (At cause column) = Refused (nowhere cause)
+
 abbrev pub openStage : ℕ → Stage
-openStage edition = cond (known edition) Start (Refused (nowhere EditionUnknown))
+openStage edition = openAt (editionFault edition)
 
 -- the numbers of a file, in the answer's order
 abbrev pub numbersOf : ℕ → ℕ → ℕ → ℕ → TwoSets → Adjusted → Adjusted → Accepted

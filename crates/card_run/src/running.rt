@@ -16,6 +16,7 @@ use crate::answer::CardAnswer;
 use crate::batch::OpenBatch;
 use crate::stage::Stage;
 use refusal::Cause;
+use refusal::Fault;
 use refusal::Refusal;
 use totals::two_sets::TwoSets;
 
@@ -31,10 +32,10 @@ pub struct Running {
 fn opening(edition: u64) -> Stage
     ensures { λ r. ⌜ r ≡ openStage edition ⌝ }
 {
-    if edition::known::is_known(edition) {
-        return Stage::Start;
+    match edition::known::fault_of(edition) {
+        Fault::Nothing => Stage::Start,
+        Fault::At(cause, _) => Stage::Refused(Refusal::nowhere(cause)),
     }
-    Stage::Refused(Refusal::nowhere(Cause::EditionUnknown))
 }
 
 impl Running {

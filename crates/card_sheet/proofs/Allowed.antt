@@ -3,7 +3,7 @@
 use Prim.Native.Nat.{ℕ, _≤_}
 use mathlib.Core.Path.{_≡_, refl, sym, _∙_, ap, subst}
 use mathlib.Core.List.{List}
-use mathlib.Core.Bool.{Bool, true}
+use mathlib.Core.Bool.{Bool, true, false}
 use native.Mathlib.Omega.{arith}
 use borrow.Author.Tests.{le-leb, lt-ltb, eq-eqb}
 use lib.ListN.{length}
@@ -11,7 +11,8 @@ use Rattle.text.proofs.Alphabets.{both}
 use Rattle.text.proofs.Numbers.{value-below}
 use Rattle.text.specs.Part.{positions}
 use Rattle.calendar.specs.Day.{isDay}
-use Rattle.edition.proofs.Editions.{known-between}
+use Rattle.edition.specs.Known.{retired}
+use Rattle.edition.proofs.Editions.{current-two, not-retired}
 use Rattle.totals.specs.declared.amounts.Totals.{Totals}
 use Rattle.totals.specs.Sum.{top}
 use Rattle.totals.specs.TwoSets.{setsOf, bothSets, summed}
@@ -78,10 +79,10 @@ module _ {edition : ℕ} {bytes : List ℕ} (k : Kept edition bytes) (a : Number
   heading-allowed : headingAllowed (plainHeading edition (k .file)) ≡ true
   unfolding headingAllowed
   heading-allowed =
-      let between = known-between edition (k .edition-known) in
+      let two = current-two edition (k .edition-current) in
       let few-batches : length (k .file .batches) ≤ 999999 = omega (arith, p .records, p .records-below, batches-below (k .file)) in
       let date-right : isDay (numberAt 9 16 (k .file .a0)) ≡ true = k .keeps .a0 .fields .1 .0 .1 in
-      rw (le-leb _ _ (between .0), le-leb _ _ (between .1), date-right, le-leb _ _ movement-below, le-leb _ _ few-batches)
+      rw (two, date-right, le-leb _ _ movement-below, le-leb _ _ few-batches)
 
   sets-allowed : setsAllowed (a .totals) ≡ true
   unfolding setsAllowed
@@ -93,7 +94,13 @@ module _ {edition : ℕ} {bytes : List ℕ} (k : Kept edition bytes) (a : Number
   unfolding sheetAllowed splitAllowed
   allowed = both (ap headingAllowed plain-heading ∙ heading-allowed) (both sets-allowed refl)
 
-pub accepted-allowed : (edition : ℕ) (bytes : List ℕ) (a : Numbers) → checkOf edition bytes ≡ Accepted a → sheetAllowed (sheetFrom edition a) ≡ true
-accepted-allowed edition bytes a e =
-    let kept = kept-means-kept edition bytes .0 (record { numbers = a; answer = e }) in
-    allowed kept a (plain-numbers edition bytes a e kept)
+module _ (edition : ℕ) (bytes : List ℕ) (a : Numbers) (e : checkOf edition bytes ≡ Accepted a) where
+  kept : Kept edition bytes
+  kept = kept-means-kept edition bytes .0 (record { numbers = a; answer = e })
+
+  pub accepted-allowed : sheetAllowed (sheetFrom edition a) ≡ true
+  accepted-allowed = allowed kept a (plain-numbers edition bytes a e kept)
+
+  -- and its edition is not retired
+  pub accepted-new : retired edition ≡ false
+  accepted-new = not-retired edition (kept .edition-current)

@@ -12,14 +12,16 @@ use Rattle.card_file.proofs.Rooms.{has-room, was-checked}
 use Rattle.sheet_numbers.specs.declared.sheet.Sheet.{Sheet}
 use Rattle.day_sheet.specs.Writing.{putResult, writeResult}
 use Rattle.card_sheet.specs.SheetOf.{sheetFrom, sheetAnswer, sheetInto, SheetOf}
-use Rattle.card_sheet.proofs.Allowed.{accepted-allowed}
+use Rattle.card_sheet.proofs.Allowed.{accepted-allowed, accepted-new}
 
 -- the sheet of an accepted file is written
 written : (edition : ℕ) (file out : List ℕ) (a : Numbers) → sheetAnswer edition file (length out) ≡ Accepted a → writeResult (sheetFrom edition a) out ≡ sheetInto edition (Accepted a) out
 unfolding sheetInto writeResult putResult
 written edition file out a e =
+    let checked = was-checked edition file 81 (length out) a e in
     rw (
-      accepted-allowed edition file a (was-checked edition file 81 (length out) a e),
+      accepted-new edition file a checked,
+      accepted-allowed edition file a checked,
       le-leb 81 (length out) (has-room edition file 81 (length out) a e),
     )
 

@@ -1,4 +1,4 @@
--- The day sheet of a card file: 1; 2 for an output shorter than 81; the file's own refusals; else its sheet in the first 81 bytes.
+-- The day sheet of a card file: 1 and 22; 2 for an output shorter than 81; the file's own refusals; else its sheet in the first 81 bytes.
 use Prim.Native.Nat.{ℕ}
 use mathlib.Core.Path.{_≡_}
 use mathlib.Core.List.{List, _++_}

@@ -6,9 +6,10 @@ use mathlib.Core.Bool.{true, false}
 use borrow.Author.Tests.{le-leb, lt-leb}
 use lib.ListN.{length, take, drop}
 use lib.Dec.{lit≤}
-use Rattle.refusal.specs.declared.Cause.the-variants.{OutputTooShort, SheetNumbersNotAllowed}
+use Rattle.refusal.specs.declared.Cause.the-variants.{OutputTooShort, SheetNumbersNotAllowed, EditionRetired}
 use Rattle.refusal.specs.declared.Refusal.{Refusal}
 use Rattle.refusal.specs.Nowhere.{nowhere}
+use Rattle.edition.specs.Known.{retired}
 use Rattle.sheet_numbers.specs.declared.sheet.Sheet.{Sheet}
 use Rattle.sheet_numbers.specs.declared.sheet.Sheet.the-variants.{Version1, Version2}
 use Rattle.day_sheet.specs.declared.writer.SheetWritten.{SheetWritten}
@@ -17,6 +18,7 @@ use Rattle.day_sheet.specs.Version.{placesOf}
 use Rattle.day_sheet.specs.Layout.{tableWidth, inPlaces}
 use Rattle.day_sheet.specs.FirstPlaces.{RoomFor, filledWith}
 use Rattle.day_sheet.specs.Sheet.{versionOf, sheetRow, bytesOf}
+use Rattle.sheet_numbers.specs.Edition.{sheetEdition}
 use Rattle.sheet_numbers.specs.Allowed.{sheetAllowed}
 use Rattle.day_sheet.specs.Writing.{sheetWidth, putAnswer, putResult, PutInto, writeAnswer, writeResult, Writes}
 
@@ -54,10 +56,15 @@ module _ (s : Sheet) (out : List ℕ) where
   put h e = record { answers = sym (rw (le-leb _ _ h)); leaves = e ∙ sym (rw (le-leb _ _ h)) }
 
   -- writing
-  pub numbers-refused : {r : Refusal} → r ≡ nowhere SheetNumbersNotAllowed → sheetAllowed s ≡ false → Writes s out (Refused r) out
+  pub edition-refused : {r : Refusal} → r ≡ nowhere EditionRetired → retired (sheetEdition s) ≡ true → Writes s out (Refused r) out
   unfolding writeAnswer writeResult
-  numbers-refused q e = record { answers = ap Refused q ∙ sym (rw e); leaves = sym (rw e) }
+  edition-refused q e = record { answers = ap Refused q ∙ sym (rw e); leaves = sym (rw e) }
 
-  pub was-put : {answer : SheetWritten} {after : List ℕ} → sheetAllowed s ≡ true → PutInto s out answer after → Writes s out answer after
-  unfolding writeAnswer writeResult
-  was-put e p = record { answers = p .answers ∙ sym (rw e); leaves = p .leaves ∙ sym (rw e) }
+  module _ (new : retired (sheetEdition s) ≡ false) where
+    pub numbers-refused : {r : Refusal} → r ≡ nowhere SheetNumbersNotAllowed → sheetAllowed s ≡ false → Writes s out (Refused r) out
+    unfolding writeAnswer writeResult
+    numbers-refused q e = record { answers = ap Refused q ∙ sym (rw (new, e)); leaves = sym (rw (new, e)) }
+
+    pub was-put : {answer : SheetWritten} {after : List ℕ} → sheetAllowed s ≡ true → PutInto s out answer after → Writes s out answer after
+    unfolding writeAnswer writeResult
+    was-put e p = record { answers = p .answers ∙ sym (rw (new, e)); leaves = p .leaves ∙ sym (rw (new, e)) }

@@ -27,10 +27,13 @@ pub(crate) fn put(sheet: Sheet, out: &mut [u8]) -> SheetWritten
     SheetWritten::Written
 }
 
-// Writes a sheet into the first bytes of the output, as many as its version has: 17, 2, or done. Refused, it changes nothing.
+// Writes a new sheet into the first bytes of the output, as many as its version has: 22 for a retired edition, 17, 2, or done. Refused, it changes nothing.
 pub fn write(sheet: Sheet, out: &mut [u8]) -> SheetWritten
     ensures { λ r. ⌜ Writes sheet (now (out .entry)) r (now (out .exit)) ⌝ }
 {
+    if edition::known::is_retired(sheet.edition()) {
+        return SheetWritten::Refused(Refusal::nowhere(Cause::EditionRetired));
+    }
     if !sheet.is_allowed() {
         return SheetWritten::Refused(Refusal::nowhere(Cause::SheetNumbersNotAllowed));
     }

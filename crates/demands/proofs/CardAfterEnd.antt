@@ -95,7 +95,7 @@ with-bytes [] st h = absurd (omega arith)
 with-bytes (b ∷ s) st h = refl
 
 -- a refused state answers its refusal, whatever waits
-refused-answers : (x : Refusal) (st : Running) (held : List ℕ) → st .stage ≡ Refused x → answerOf (card.withHeld held st) ≡ refused x
+pub refused-answers : (x : Refusal) (st : Running) (held : List ℕ) → st .stage ≡ Refused x → answerOf (card.withHeld held st) ≡ refused x
 unfolding card.withHeld card.behindEnd
 refused-answers x st [] e = stays.answer-of st x e
 refused-answers x st (b ∷ s) e = ap (λ stage. answerOf (card.behindEnd stage st)) e ∙ stays.answer-of st x e

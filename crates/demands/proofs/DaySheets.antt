@@ -1,18 +1,20 @@
 -- Demand 2 for day sheets, from the crates that prove its parts: what they say of answers, said of their rows.
 use Prim.Native.Nat.{ℕ}
-use mathlib.Core.Path.{_≡_, sym, _∙_, ap}
+use mathlib.Core.Path.{_≡_, refl, sym, _∙_, ap}
 use mathlib.Core.List.{List}
 use mathlib.Core.Bool.{true}
-use lib.ListN.{length}
 use lib.Pow.{areBytes}
 use Rattle.refusal.specs.Row.{noRefusal}
+use Rattle.edition.proofs.Editions.{not-retired}
 use Rattle.card_run.proofs.FileRows.{is-accepted}
+use Rattle.sheet_numbers.specs.Edition.{sheetEdition}
 use Rattle.day_sheet.specs.Sheet.{bytesOf}
 use Rattle.day_sheet.specs.Reading.{readOf}
 use Rattle.day_sheet.specs.Conversion.{convertedBytes}
 use Rattle.day_sheet.specs.Answer.{readRow}
 use Rattle.day_sheet.proofs.RoundTrip as round
-use Rattle.day_sheet.proofs.ThereAndBack.{converted-readable, as-written, leaves-as-written, same-bytes, same-untold}
+use Rattle.day_sheet.proofs.Writings.{edition-refused}
+use Rattle.day_sheet.proofs.ThereAndBack.{converted-readable, as-put, as-written, same-bytes, same-untold, written-again, converted-again}
 use Rattle.sheet_numbers.proofs.Conversions.{converted-allowed}
 use Rattle.day_sheet.proofs.SheetRows.{was-read, same-read, split-of-one}
 use Rattle.card_sheet.proofs.Allowed.{is-plain, converted-plain, accepted-allowed}
@@ -23,9 +25,12 @@ pub sheet-there-and-back : SheetThereAndBack
 sheet-there-and-back =
     record {
       reads-back = λ s allowed. ap readRow (round.reads-back s allowed);
-      the-one-we-write = λ l s bytes e.
+      its-bytes = λ l s bytes e.
           let read = same-read (readOf l) s e in
           (round.the-one-we-write l s read bytes, round.read-allowed l s read);
+      the-one-we-write = λ l s bytes e is out room. written-again l s (same-read (readOf l) s e) bytes out room (not-retired (sheetEdition s) is);
+      the-one-conversion-writes = λ l s bytes e z out room. converted-again l s (same-read (readOf l) s e) bytes out room z;
+      none-new = λ s is out. edition-refused s out refl is;
       different = round.different;
     }
 
@@ -51,9 +56,8 @@ pub sheet-converted : SheetConverted
 sheet-converted =
     record {
       readable = λ l s e. ap readRow (converted-readable l s (same-read (readOf l) s e));
-      as-written = λ l s e out answer after c.
-          let read = same-read (readOf l) s e in
-          record { answers = c .answers ∙ as-written l s read (length out); leaves = c .leaves ∙ leaves-as-written l s read out };
+      as-put = λ l s e out answer after c. as-put l s (same-read (readOf l) s e) out c;
+      as-written = λ l s e is out answer after c. as-written l s (same-read (readOf l) s e) (not-retired (sheetEdition s) is) out c;
       allowed = λ l s e. converted-allowed s (round.read-allowed l s (same-read (readOf l) s e));
       from-one-and-back = λ l bytes e v. by-split l bytes e (no-split l e v);
       from-two-and-back = λ l bytes e v. (came-back l e, by-split l bytes e);

@@ -12,7 +12,6 @@ use Rattle.calendar.specs.When.{whenRules}
 use Rattle.pan.specs.CardField.{wellFormed, leadingZeros}
 use Rattle.pan.specs.HiddenPlaces.{hiddenPlaces}
 use Rattle.pan.specs.Masked.{starWhere}
-use Rattle.edition.specs.Known.{known}
 use Rattle.card_content.specs.Content.{inSet, contentRules}
 use Rattle.card_content.specs.Field.{tableRules, recordRules}
 use Rattle.card_sale.specs.Cv.{joinedRules}
@@ -26,5 +25,5 @@ use Rattle.card_file.specs.Feeding.{fedAll}
 use Rattle.demands.specs.Examples.{asWritten, examples, allAsWritten}
 
 pub hold : allAsWritten examples ≡ true
-unfolding firstBroken allowed holdsOnly valueFrom sameBytes hasByte oneByteOf daysIn isDay isTime whenRules wellFormed leadingZeros hiddenPlaces starWhere known inSet contentRules tableRules recordRules joinedRules kindNamed rightReading judgedAs readFound answerAt cardFileRow joinedAt rulesOf behind behindOrRefused tookAt fedAll asWritten allAsWritten
+unfolding firstBroken allowed holdsOnly valueFrom sameBytes hasByte oneByteOf daysIn isDay isTime whenRules wellFormed leadingZeros hiddenPlaces starWhere inSet contentRules tableRules recordRules joinedRules kindNamed rightReading judgedAs readFound answerAt cardFileRow joinedAt rulesOf behind behindOrRefused tookAt fedAll asWritten allAsWritten
 hold = refl

@@ -13,7 +13,6 @@ use Rattle.refusal.specs.RefusalList.{numberOf}
 use Rattle.refusal.proofs.RefusalList.{from-one}
 use Rattle.lines.specs.Lines.{allNoLf, joined}
 use Rattle.lines.proofs.Cuts.{cut-joined}
-use Rattle.edition.specs.Known.{known}
 use Rattle.card_record.specs.Reading.{readingOf}
 use Rattle.card_run.specs.declared.stage.Stage.{Stage}
 use Rattle.card_run.specs.declared.stage.Stage.the-variants.{Start, BetweenBatches, InBatch, Ended, Closed, Refused}
@@ -26,7 +25,7 @@ use Rattle.card_step.specs.Step.{tookAt}
 use Rattle.card_file.specs.Feeding.{fedOf, fedAll}
 use Rattle.card_run.specs.Answer.{answerAt, answerOf, goingOnRow, refusedRow, cardFileRow}
 use Rattle.card_file.specs.CardFile.{endOf, ranOf, checkOf}
-use Rattle.demands.specs.Feeding.{upTo, FedAsWhole, RefusedForGood, BadEdition, Call, feed, close, called, afterTheEnd, AfterAcceptedClose, OnePastTheLast}
+use Rattle.demands.specs.Feeding.{upTo, FedAsWhole, RefusedForGood, Call, feed, close, called, afterTheEnd, AfterAcceptedClose, OnePastTheLast}
 use Rattle.card_kept.proofs.Stays as stays
 use Rattle.card_kept.proofs.Batches.{fed-row, lines-are}
 use Rattle.card_kept.proofs.Standing.{StandsAt, Stands, next-number, fed-all, fed-open}
@@ -126,8 +125,6 @@ unfolding cardFileRow
 refused-for-good st x e calls = ap cardFileRow (ap answerOf (called-all x st calls (stays.stage-of st x e)) ∙ e)
 
 -- "A bad edition is refused, 1, from the start"
-pub bad-edition : (edition : ℕ) → known edition ≡ false → BadEdition edition
-bad-edition edition bad = refused-for-good (openOf edition) _ (stays.bad-edition-opens edition bad)
 
 -- an accepted answer is that of a closed run
 pub closed-stage : (st : Running) (answer : AcceptedFile) → answerOf st ≡ accepted answer → st .stage ≡ Closed

@@ -5,13 +5,10 @@ use mathlib.Core.Path.{_≡_, refl, sym, _∙_, ap, ap₂}
 use mathlib.Core.List.{List, _++_}
 use mathlib.Core.Bool.{Bool, true, false, cond}
 use lib.ListN.{length, getD, take, drop}
-use lib.Dec.{leb}
-use Rattle.refusal.specs.declared.Cause.the-variants.{EditionUnknown, OutputTooShort}
-use Rattle.refusal.specs.Nowhere.{nowhere}
+use Rattle.refusal.specs.Rules.{firstBroken}
 use Rattle.pan.proofs.Tests.{by-test}
 use Rattle.pan.proofs.Stars.{length-kept, at-place}
 use Rattle.lines.specs.Lines.{endsInCr, withoutLast}
-use Rattle.edition.specs.Known.{known}
 use Rattle.card_run.specs.declared.running.Running.{Running}
 use Rattle.card_run.specs.declared.answer.CardAnswer.{CardAnswer}
 use Rattle.card_run.specs.declared.answer.CardAnswer.the-variants.{GoingOn, Accepted, Refused}
@@ -21,7 +18,7 @@ use Rattle.card_file.specs.Feeding.{fedOf, fedAll}
 use Rattle.card_run.specs.Answer.{answerOf, cardFileRow}
 use Rattle.sale_field.specs.Field.{fieldRow}
 use Rattle.card_file.specs.CardFile.{unendedOf, lineOf, linesOf, endOf, checkOf}
-use Rattle.card_file.specs.Room.{answerWithRoom}
+use Rattle.card_file.specs.Room.{roomRules, answerBehind, answerWithRoom}
 use Rattle.card_mask.specs.Mask.{maskAnswer, maskedInto}
 use Rattle.card_sheet.specs.SheetOf.{sheetInto}
 use Rattle.demands.specs.Feeding.{Call, called}
@@ -97,9 +94,7 @@ same-answer : (edition : ℕ) (s t : List ℕ) {need need' : ℕ} (room : ℕ) �
     answerWithRoom edition s need room ≡ answerWithRoom edition t need' room
 unfolding answerWithRoom
 same-answer edition s t room e w =
-    ap₂ (λ need answer.
-    cond (known edition) (cond (leb need room) answer (Refused (nowhere OutputTooShort))) (Refused (nowhere EditionUnknown)))
-    e (same-check edition s t w)
+    ap₂ (λ need answer. answerBehind (firstBroken (roomRules edition need room)) answer) e (same-check edition s t w)
 
 -- what masking leaves in the output
 same-output : (answer : CardAnswer) (s t out : List ℕ) → TwinFiles s t → maskedInto answer s out ≡ maskedInto answer t out

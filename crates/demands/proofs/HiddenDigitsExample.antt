@@ -26,7 +26,6 @@ use Rattle.card_record.specs.CardPart.{cardPartFound}
 use Rattle.card_record.specs.Kind.{kindNamed}
 use Rattle.card_record.specs.Reading.{rightReading, judgedAs, readFound}
 use Rattle.card_run.specs.Answer.{answerAt}
-use Rattle.edition.specs.Known.{known}
 use Rattle.card_run.specs.Running.{closedAt, lateAt}
 use Rattle.card_step.specs.Rules.{joinedAt, rulesOf}
 use Rattle.card_step.specs.Behind.{behind}
@@ -49,11 +48,11 @@ unfolding picked allowed holdsOnly sameBytes wellFormed leadingZeros hiddenPlace
 credit-twins = equal-stars (picked oneCredit otherCredit) oneCredit otherCredit .0 refl
 
 accepted : cardFileRow (checkOf 2 oneFile) .accepted ≡ true
-unfolding known cardFileRow firstBroken allowed holdsOnly valueFrom sameBytes hasByte oneByteOf daysIn isDay isTime whenRules wellFormed leadingZeros inFront cut joined endsInCr withoutLast inSet dayOrZerosRules cardOrBlanksRules contentRules joinedRules adjustmentRules tableRules recordRules kindNamed rightReading judgedAs readFound answerAt joinedAt rulesOf behind behindOrRefused tookAt closedAt linesOf endOf lateAt
+unfolding cardFileRow firstBroken allowed holdsOnly valueFrom sameBytes hasByte oneByteOf daysIn isDay isTime whenRules wellFormed leadingZeros inFront cut joined endsInCr withoutLast inSet dayOrZerosRules cardOrBlanksRules contentRules joinedRules adjustmentRules tableRules recordRules kindNamed rightReading judgedAs readFound answerAt joinedAt rulesOf behind behindOrRefused tookAt closedAt linesOf endOf lateAt
 accepted = refl
 
 credit-accepted : cardFileRow (checkOf 2 oneCredit) .accepted ≡ true
-unfolding known cardFileRow firstBroken allowed holdsOnly valueFrom sameBytes hasByte oneByteOf daysIn isDay isTime whenRules wellFormed leadingZeros inFront cut joined endsInCr withoutLast inSet dayOrZerosRules cardOrBlanksRules contentRules joinedRules adjustmentRules tableRules recordRules kindNamed rightReading judgedAs readFound answerAt joinedAt rulesOf behind behindOrRefused tookAt closedAt linesOf endOf lateAt
+unfolding cardFileRow firstBroken allowed holdsOnly valueFrom sameBytes hasByte oneByteOf daysIn isDay isTime whenRules wellFormed leadingZeros inFront cut joined endsInCr withoutLast inSet dayOrZerosRules cardOrBlanksRules contentRules joinedRules adjustmentRules tableRules recordRules kindNamed rightReading judgedAs readFound answerAt joinedAt rulesOf behind behindOrRefused tookAt closedAt linesOf endOf lateAt
 credit-accepted = refl
 
 differ : oneFile ≡ otherFile → ⊥

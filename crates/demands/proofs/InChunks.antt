@@ -25,7 +25,7 @@ use Rattle.demands.proofs.PayrollAfterEnd.{payroll-decided, payroll-end
 
 -- an answer that no chunk changes is there after all of them
 module _ {S A : Type 0} (taken : S → List ℕ → S) (answer : S → A) (r : A) (stays : (s : S) → answer s ≡ r → (chunk : List ℕ) → answer (taken s chunk) ≡ r) where
-  after-all : (s : S) (chunks : List (List ℕ)) → answer s ≡ r → answer (foldl taken s chunks) ≡ r
+  pub after-all : (s : S) (chunks : List (List ℕ)) → answer s ≡ r → answer (foldl taken s chunks) ≡ r
   after-all s [] e = e
   after-all s (c ∷ cs) e = after-all (taken s c) cs (stays s e c)
 

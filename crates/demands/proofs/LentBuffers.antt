@@ -19,6 +19,8 @@ use Rattle.day_sheet.specs.declared.writer.SheetWritten.{SheetWritten}
 use Rattle.day_sheet.specs.declared.writer.SheetWritten.the-variants.{Written, Refused as notWritten}
 use Rattle.day_sheet.specs.declared.reader.SheetRead.{SheetRead}
 use Rattle.day_sheet.specs.declared.reader.SheetRead.the-variants.{Read, Refused as unreadable}
+use Rattle.edition.specs.Known.{retired}
+use Rattle.sheet_numbers.specs.Edition.{sheetEdition}
 use Rattle.sheet_numbers.specs.Allowed.{sheetAllowed}
 use Rattle.day_sheet.specs.Reading.{readOf}
 use Rattle.day_sheet.specs.Writing.{sheetWidth, putAnswer, putResult, writeAnswer, writeResult}
@@ -54,11 +56,13 @@ not-put : (sheet : Sheet) (out : List ℕ) {answer : SheetWritten} → answer �
 unfolding putAnswer putResult
 not-put sheet out e refused = by-room (leb (sheetWidth sheet) (length out)) _ _ out e refused
 
--- writing refuses besides what is not allowed, converting what cannot be read
-not-written : (allowed : Bool) (sheet : Sheet) (out : List ℕ) (r : Refusal) {answer : SheetWritten} →
-    answer ≡ cond allowed (putAnswer sheet (length out)) (notWritten r) → (writtenRow answer .refusal ≡ noRefusal → ⊥) → cond allowed (putResult sheet out) out ≡ out
-not-written true sheet out r e refused = not-put sheet out e refused
-not-written false sheet out r e refused = refl
+-- writing refuses besides an edition that is retired, and what is not allowed; converting what cannot be read
+not-written : (old allowed : Bool) (sheet : Sheet) (out : List ℕ) (q r : Refusal) {answer : SheetWritten} →
+    answer ≡ cond old (notWritten q) (cond allowed (putAnswer sheet (length out)) (notWritten r)) → (writtenRow answer .refusal ≡ noRefusal → ⊥) →
+    cond old out (cond allowed (putResult sheet out) out) ≡ out
+not-written true allowed sheet out q r e refused = refl
+not-written false true sheet out q r e refused = not-put sheet out e refused
+not-written false false sheet out q r e refused = refl
 
 not-converted : (read : SheetRead) (out : List ℕ) {answer : SheetWritten} → answer ≡ convertAnswer read (length out) →
     (writtenRow answer .refusal ≡ noRefusal → ⊥) → convertResult read out ≡ out
@@ -78,7 +82,7 @@ refused-leaves-alone =
           let into : CardAnswer → List ℕ = λ a. sheetInto edition a out in
           card-alone into out after (λ r. refl) answer (s .leaves ∙ ap into (sym (s .answers)));
       writing-sheet = λ sheet out answer after w refused.
-          record { lent = w .leaves ∙ not-written (sheetAllowed sheet) sheet out _ (w .answers) refused; counts = no-sheet answer };
+          record { lent = w .leaves ∙ not-written (retired (sheetEdition sheet)) (sheetAllowed sheet) sheet out _ _ (w .answers) refused; counts = no-sheet answer };
       converting-sheet = λ sheet out answer after c refused.
           record { lent = c .leaves ∙ not-converted (readOf sheet) out (c .answers) refused; counts = no-sheet answer };
     }

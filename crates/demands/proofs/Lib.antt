@@ -3,6 +3,7 @@ pub mod Feeding
 pub mod CardAfterEnd
 pub mod PayrollAfterEnd
 pub mod InChunks
+pub mod Editions
 pub mod TwinLaws
 pub mod TwinRecords
 pub mod TwinFiles

@@ -3,22 +3,24 @@ use Prim.Native.Nat.{ℕ}
 use mathlib.Core.Path.{_≡_}
 use mathlib.Core.List.{List}
 use mathlib.Core.Bool.{true, false}
+use Rattle.refusal.specs.declared.Cause.the-variants.{EditionUnknown, EditionRetired}
 use Rattle.refusal.specs.declared.Refusal.{Refusal}
 use Rattle.refusal.specs.Row.{noRefusal}
 use Rattle.lines.specs.Lines.{allNoLf}
-use Rattle.edition.specs.Known.{known}
+use Rattle.edition.specs.Known.{current, retired, known}
 use Rattle.card_run.specs.declared.running.Running.{Running}
 use Rattle.card_run.specs.Running.{openOf, closedOf}
 use Rattle.card_run.specs.Answer.{answerOf, refusedRow, cardFileRow}
 use Rattle.card_file.specs.Feeding.{fedAll}
-use Rattle.card_kept.specs.FirstFault.{FirstFaultOfRecord, EditionFirst, FirstFaultDecides}
+use Rattle.card_kept.specs.FirstFault.{FirstFaultOfRecord, FirstFaultDecides}
 use Rattle.payroll_run.specs.declared.running.Running.{Running as PayrollRunning}
 use Rattle.payroll_file.specs.Answer.{stateRow}
 use Rattle.payroll_kept.specs.FirstFault as payroll-record
 use Rattle.payroll_kept.specs.FirstFaultOfFile as payroll-file
 use Rattle.demands.specs.DaySheets.{SheetThereAndBack, SheetConverted, SheetOfFile}
+use Rattle.demands.specs.Editions.{RefusedOutright}
 use Rattle.demands.specs.Examples.{examples, allAsWritten}
-use Rattle.demands.specs.Feeding.{FedAsWhole, RefusedForGood, BadEdition, AfterAcceptedClose, OnePastTheLast}
+use Rattle.demands.specs.Feeding.{FedAsWhole, RefusedForGood, AfterAcceptedClose, OnePastTheLast}
 use Rattle.demands.specs.HiddenDigits.{HiddenDigitsReachNothing, MaskedWhereHidden}
 use Rattle.demands.specs.HiddenDigitsExample.{oneFile, otherFile, oneCredit, otherCredit, TwinsThatDiffer}
 use Rattle.demands.specs.InChunks.{AsTheWhole, AfterTheEnd}
@@ -30,10 +32,10 @@ pub record Demands : Type 0 where
 
   -- a record fed to a state that is not refused
   pub record-judged : (st : Running) (r : List ℕ) → cardFileRow (answerOf st) .refusal ≡ noRefusal → FirstFaultOfRecord st r
-  -- "Order: 1, then ..": whatever the file is, under an edition that is not known
-  pub edition-first : (edition : ℕ) → known edition ≡ false → EditionFirst edition
-  -- and under one that is
-  pub file-judged : (edition : ℕ) → known edition ≡ true → (file : List ℕ) → FirstFaultDecides edition file
+  -- "Order: 1, then ..": under an edition that is not known every file gets 1; under one that is retired 22, "right after 1" (`edition-retired`);
+  pub edition-first : (edition : ℕ) → known edition ≡ false → RefusedOutright edition EditionUnknown
+  -- and under one that is current the first fault in the file decides
+  pub file-judged : (edition : ℕ) → current edition ≡ true → (file : List ℕ) → FirstFaultDecides edition file
   -- a payroll record taken by a state that is not refused, and a payroll file
   pub payroll-record-judged : (st : PayrollRunning) (r : List ℕ) → stateRow (st .stage) .refusal ≡ noRefusal → payroll-record.FirstFaultOfRecord st r
   pub payroll-file-judged : (file : List ℕ) → payroll-file.FirstFaultDecides file
@@ -42,7 +44,7 @@ pub record Demands : Type 0 where
   -- DEMAND 2. "Accepted exactly when 01's rules are kept. Counts, totals, masked copy are those defined there"
   pub card-rules-kept : CardRulesKept
   pub payroll-rules-kept : PayrollRulesKept
-  -- "A day sheet that we write reads back as the same numbers, and a readable sheet is the one we would write"
+  -- "A day sheet that we write reads back as the same numbers, and a readable sheet is the one we would write", of edition 2; of edition 1 "through conversion only"
   pub sheet-there-and-back : SheetThereAndBack
   -- "Demand 2's clause on sheets now covers both versions"; "From 1 to 2 and back gives the same bytes"
   pub sheet-converted : SheetConverted
@@ -51,7 +53,6 @@ pub record Demands : Type 0 where
   pub fed-as-whole : (edition : ℕ) (records : List (List ℕ)) → allNoLf records ≡ true → FedAsWhole edition records
   -- "Once refused, every later call gives that same refusal"
   pub refused-for-good : (st : Running) (refusal : Refusal) → cardFileRow (answerOf st) ≡ refusedRow refusal → RefusedForGood st refusal
-  pub bad-edition : (edition : ℕ) → known edition ≡ false → BadEdition edition
   -- "After an accepted close, a further record is 13 and a further close the same answer"
   pub after-accepted-close : (st : Running) → cardFileRow (answerOf st) .accepted ≡ true → AfterAcceptedClose st
   pub one-past-the-last : (edition : ℕ) (records : List (List ℕ)) →
@@ -61,6 +62,8 @@ pub record Demands : Type 0 where
   pub after-the-end : AfterTheEnd
   -- DEMAND 3. "Two files that differ only in hidden digits get the same verdict, refusal, counts, totals, sheet and output bytes"
   pub hidden-digits-reach-nothing : HiddenDigitsReachNothing
+  -- "In demand 3 the shared edition is now 2": under edition 1 every file gets 22, whatever it holds
+  pub edition-retired : (edition : ℕ) → retired edition ≡ true → RefusedOutright edition EditionRetired
   -- "The masked copy is the accepted file with a star at each such place"
   pub masked-where-hidden : (file : List ℕ) → MaskedWhereHidden file
   -- there are such files

@@ -5,9 +5,8 @@ use mathlib.Core.List.{List, [], _∷_, _++_}
 use mathlib.Core.Bool.{cond, not, _&&_}
 use lib.ListN.{length}
 use lib.Dec.{leb, eqb}
-use Rattle.refusal.specs.declared.Cause.the-variants.{EditionUnknown, BytesAfterTheEnd}
+use Rattle.refusal.specs.declared.Cause.the-variants.{BytesAfterTheEnd}
 use Rattle.refusal.specs.declared.Refusal.{Refusal}
-use Rattle.refusal.specs.Nowhere.{nowhere}
 use Rattle.lines.specs.Lines.{joined}
 use Rattle.card_run.specs.declared.running.Running.{Running}
 use Rattle.card_run.specs.Running.{openOf, nextNumber, closedOf}
@@ -41,10 +40,6 @@ called st (close ∷ calls) = called (closedOf st) calls
 -- "Once refused, every later call gives that same refusal"
 abbrev pub RefusedForGood : Running → Refusal → Type 0
 RefusedForGood st refusal = (calls : List Call) → cardFileRow (answerOf (called st calls)) ≡ refusedRow refusal
-
--- "A bad edition is refused, 1, from the start"
-abbrev pub BadEdition : ℕ → Type 0
-BadEdition edition = RefusedForGood (openOf edition) (nowhere EditionUnknown)
 
 -- 13, at the record that comes next: "one past the last, 0"
 abbrev pub afterTheEnd : Running → Refusal

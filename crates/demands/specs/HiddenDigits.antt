@@ -73,9 +73,10 @@ pub data TwinCalls : List Call → List Call → Type 0 where
   feeds : {r s : List ℕ} {cs ds : List Call} → TwinRecords r s → TwinCalls cs ds → TwinCalls (feed r ∷ cs) (feed s ∷ ds)
   closes : {cs ds : List Call} → TwinCalls cs ds → TwinCalls (close ∷ cs) (close ∷ ds)
 
--- demand 3, a field for each question
+-- demand 3, a field for each question. The shared edition is 2, under which alone a file is read; what is said holds under every other too, which refuses all files
+-- alike (`edition-first`, `edition-retired`)
 pub record HiddenDigitsReachNothing : Type 0 where
-  -- what a record is read as, under every edition
+  -- what a record is read as
   pub reading : (edition : ℕ) (r s : List ℕ) → TwinRecords r s → readingOf edition r ≡ readingOf edition s
   -- the state, and so the answer, after every number of records fed, and after the close
   pub fed : (edition : ℕ) (rs ss : List (List ℕ)) → TwinLists rs ss → (k : ℕ) →

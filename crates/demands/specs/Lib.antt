@@ -3,6 +3,7 @@ pub mod Examples
 pub mod Feeding
 pub mod InChunks
 pub mod HiddenDigits
+pub mod Editions
 pub mod LentBuffers
 pub mod RulesKept
 pub mod DaySheets

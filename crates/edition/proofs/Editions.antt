@@ -1,17 +1,38 @@
--- A known edition is 1 or 2.
-use Prim.Native.Nat.{ℕ, _≤_}
-use mathlib.Core.Path.{_≡_}
-use mathlib.Core.Bool.{Bool, true, false, _||_, false≢true}
-use native.Mathlib.Omega.{arith}
-use lib.Dec.{eqb}
+-- What an edition's standing says of its fault: unknown 1, retired 22, current none; and only of a current one none. A current edition is 2.
+use Prim.Native.Nat.{ℕ}
+use mathlib.Core.Path.{_≡_, refl, sym, ap}
+use mathlib.Core.List.{[], _∷_}
+use mathlib.Core.Bool.{Bool, true, false, not, _||_}
 use borrow.Author.Tests.{eqb-true}
-use Rattle.edition.specs.Known.{known}
+use Rattle.refusal.specs.declared.Cause.the-variants.{EditionUnknown, EditionRetired}
+use Rattle.refusal.specs.declared.Fault.the-variants.{Nothing, At}
+use Rattle.refusal.specs.Rules.{ruleAt, firstBroken}
+use Rattle.refusal.proofs.Faults.{not-both}
+use Rattle.edition.specs.Known.{current, retired, known, editionFault}
 
-pub known-between : (e : ℕ) → known e ≡ true → (1 ≤ e) × (e ≤ 2)
-unfolding known
-known-between e h = by (eqb e 1) (eqb e 2) (eqb-true e 1) (eqb-true e 2) h
+pub unknown-fault : (e : ℕ) → known e ≡ false → editionFault e ≡ At EditionUnknown 0
+unfolding firstBroken
+unknown-fault e h = rw h
+
+pub retired-fault : (e : ℕ) → retired e ≡ true → editionFault e ≡ At EditionRetired 0
+unfolding firstBroken
+retired-fault e h = rw h
+
+pub current-two : (e : ℕ) → current e ≡ true → e ≡ 2
+current-two e h = eqb-true e 2 h
+
+pub current-fault : (e : ℕ) → current e ≡ true → editionFault e ≡ Nothing
+unfolding firstBroken
+current-fault e h = ap editionFault (current-two e h)
+
+pub not-retired : (e : ℕ) → current e ≡ true → retired e ≡ false
+not-retired e h = ap retired (current-two e h)
+
+pub fault-current : (e : ℕ) → editionFault e ≡ Nothing → current e ≡ true
+unfolding firstBroken
+fault-current e h = by (retired e) (current e) h
   where
-    by : (p q : Bool) → (p ≡ true → e ≡ 1) → (q ≡ true → e ≡ 2) → p || q ≡ true → (1 ≤ e) × (e ≤ 2)
-    by true q one two h = let is = one h in (omega arith, omega arith)
-    by false true one two h = let is = two h in (omega arith, omega arith)
-    by false false one two h = absurd (false≢true h)
+    by : (r c : Bool) → firstBroken (ruleAt EditionUnknown 0 (r || c) ∷ ruleAt EditionRetired 0 (not r) ∷ []) ≡ Nothing → c ≡ true
+    by true c h = absurd (not-both (sym h))
+    by false true h = refl
+    by false false h = absurd (not-both (sym h))

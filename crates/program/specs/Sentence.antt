@@ -12,10 +12,10 @@ use Rattle.program.specs.Reason.{reasonOf}
 
 -- the arguments of each program
 abbrev pub argumentsOf : Program → List ℕ
-argumentsOf Card = ascii "card EDITION < FILE\n"
-argumentsOf Mask = ascii "mask EDITION FILE OUT\n"
+argumentsOf Card = ascii "card EDITION < FILE, where EDITION is 2\n"
+argumentsOf Mask = ascii "mask EDITION FILE OUT, where EDITION is 2\n"
 argumentsOf Payroll = ascii "payroll < FILE\n"
-argumentsOf Sheet = ascii "sheet EDITION FILE OUT, or sheet --convert FILE OUT, or sheet FILE\n"
+argumentsOf Sheet = ascii "sheet EDITION FILE OUT, where EDITION is 2, or sheet --convert FILE OUT, or sheet FILE\n"
 
 -- what the system did not do, before the reason that it gives
 abbrev pub failedOf : Failed → List ℕ
@@ -28,6 +28,6 @@ failedOf Print = ascii "the verdict cannot be printed, so see that standard outp
 abbrev pub sentenceOf : Mistake → List ℕ
 sentenceOf (Usage program) = ascii "usage: ./lossivurn " ++ argumentsOf program
 sentenceOf TooLong = ascii "an argument is longer than the name of a file can be: give a shorter one.\n"
-sentenceOf EditionNoNumber = ascii "EDITION is no number: give 1 (June 2013) or 2 (November 2023).\n"
+sentenceOf EditionNoNumber = ascii "EDITION is no number: give 2 (November 2023).\n"
 sentenceOf OutNoFile = ascii "OUT is there and no regular file: give a file's name, or one that is not there.\n"
 sentenceOf (System failed error) = failedOf failed ++ reasonOf error

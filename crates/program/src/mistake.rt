@@ -44,11 +44,11 @@ fn put_arguments(program: Program, out: &mut [u8], at: usize) -> usize
     ensures { λ r. ⌜ Puts (argumentsOf program) (now (out .entry)) at r (now (out .exit)) ⌝ }
 {
     match program {
-        Program::Card => text(b"card EDITION < FILE\n", out, at),
-        Program::Mask => text(b"mask EDITION FILE OUT\n", out, at),
+        Program::Card => text(b"card EDITION < FILE, where EDITION is 2\n", out, at),
+        Program::Mask => text(b"mask EDITION FILE OUT, where EDITION is 2\n", out, at),
         Program::Payroll => text(b"payroll < FILE\n", out, at),
         Program::Sheet => text(
-            b"sheet EDITION FILE OUT, or sheet --convert FILE OUT, or sheet FILE\n",
+            b"sheet EDITION FILE OUT, where EDITION is 2, or sheet --convert FILE OUT, or sheet FILE\n",
             out,
             at,
         ),
@@ -103,7 +103,7 @@ pub fn put(mistake: Mistake, out: &mut [u8], at: usize) -> usize
             at,
         ),
         Mistake::EditionNoNumber => text(
-            b"EDITION is no number: give 1 (June 2013) or 2 (November 2023).\n",
+            b"EDITION is no number: give 2 (November 2023).\n",
             out,
             at,
         ),

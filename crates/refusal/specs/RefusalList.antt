@@ -1,4 +1,4 @@
--- "The refusal list": the number that document 01 gives each cause.
+-- "The refusal list": the number that document 01, and behind its rows the requests, give each cause.
 use Prim.Native.Nat.{ℕ}
 use mathlib.Core.List.{List, [], _∷_}
 use Rattle.refusal.specs.declared.Cause.{Cause}
@@ -21,6 +21,7 @@ numberOf Cause.FieldNotOffered = 14  -- "field not offered"
 numberOf Cause.NotADaySheet = 15  -- "not a day sheet"
 numberOf Cause.SheetVersionUnknown = 16  -- "day sheet version unknown"
 numberOf Cause.SheetNumbersNotAllowed = 17  -- "day sheet's numbers not allowed"
+numberOf Cause.EditionRetired = 22  -- "edition retired"
 
 -- the causes in the list's order
 abbrev pub causes : List Cause
@@ -29,4 +30,4 @@ causes =
     Cause.KindNotAllowedHere ∷ Cause.WrongWidth ∷ Cause.ByteNotAllowed ∷ Cause.ValueNotAllowed ∷
     Cause.SequenceWrong ∷ Cause.AmountsDisagree ∷ Cause.TrailerDisagrees ∷ Cause.EndsTooEarly ∷
     Cause.BytesAfterTheEnd ∷ Cause.FieldNotOffered ∷ Cause.NotADaySheet ∷ Cause.SheetVersionUnknown ∷
-    Cause.SheetNumbersNotAllowed ∷ []
+    Cause.SheetNumbersNotAllowed ∷ Cause.EditionRetired ∷ []

@@ -23,6 +23,7 @@ pub enum Cause {
     NotADaySheet,
     SheetVersionUnknown,
     SheetNumbersNotAllowed,
+    EditionRetired,
 }
 
 // A refusal: its cause, the record's number from 1, and the column; 0 where the list gives none.
@@ -74,6 +75,7 @@ impl Cause {
             Cause::NotADaySheet => 15,
             Cause::SheetVersionUnknown => 16,
             Cause::SheetNumbersNotAllowed => 17,
+            Cause::EditionRetired => 22,
         }
     }
 }

@@ -1,4 +1,4 @@
--- What is converted is allowed: both sets summed are a set within the limits, and a set with none beside it is two.
+-- What is converted keeps its edition, and is allowed: both sets summed are a set within the limits, and a set with none beside it is two.
 use Prim.Native.Nat.{_+_}
 use mathlib.Core.Path.{_≡_, refl, _∙_, ap}
 use mathlib.Core.Bool.{true, _&&_}
@@ -15,8 +15,15 @@ use Rattle.totals.proofs.Totals.{neutral}
 use Rattle.sheet_numbers.specs.declared.sheet.Sheet.{Sheet}
 use Rattle.sheet_numbers.specs.declared.sheet.Sheet.the-variants.{Version1, Version2}
 use Rattle.sheet_numbers.specs.Allowed.{withinLimits, setAllowed, setsAllowed, headingAllowed, noneOf, splitAllowed, sheetAllowed}
+use Rattle.sheet_numbers.specs.Edition.{sheetEdition}
 use Rattle.sheet_numbers.specs.Converted.{converted}
 use Rattle.sheet_numbers.proofs.Allowances.{set-within, set-agrees, sum-plain, sets-within}
+
+-- the edition stays
+pub same-edition : (s : Sheet) → sheetEdition (converted s) ≡ sheetEdition s
+unfolding converted
+same-edition (Version1 h t) = refl
+same-edition (Version2 h split sets) = refl
 
 -- no sale added changes no allowed totals
 pub none-added : (t : Totals) → setAllowed t ≡ true → addedTotals noTotals t ≡ t

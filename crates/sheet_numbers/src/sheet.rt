@@ -1,6 +1,7 @@
 // The numbers of a day sheet, and the sheet of the other version.
 ghost use mathlib.Core.Path.{_≡_};
 ghost use Rattle.sheet_numbers.specs.Converted.{converted};
+ghost use Rattle.sheet_numbers.specs.Edition.{sheetEdition};
 use totals::amounts::Totals;
 use totals::two_sets::TwoSets;
 
@@ -27,6 +28,20 @@ pub enum Sheet {
 }
 
 impl Sheet {
+    // The edition that a sheet carries.
+    pub fn edition(self) -> u64
+        ensures { λ r. ⌜ r ≡ sheetEdition self ⌝ }
+    {
+        match self {
+            Sheet::Version1 { heading, totals: _ } => heading.edition,
+            Sheet::Version2 {
+                heading,
+                split: _,
+                sets: _,
+            } => heading.edition,
+        }
+    }
+
     // The sheet in the other version: all sales as settled with the split not known, or both sets added.
     pub fn converted(self) -> Sheet
         ensures { λ r. ⌜ r ≡ converted self ⌝ }

@@ -1,14 +1,16 @@
 -- `demands::demands_hold` meets its contract: the theorems, gathered.
+use Rattle.edition.proofs.Editions.{unknown-fault, retired-fault}
 use Rattle.card_run.specs.Answer.{answerOf, cardFileRow}
 use Rattle.card_run.specs.declared.answer.CardAnswer.the-variants.{Refused}
 use Rattle.card_run.proofs.FileRows.{same-answer, refusal-told, is-accepted}
-use Rattle.card_kept.proofs.FirstFault.{first-fault-of-record, edition-first, first-fault-decides}
+use Rattle.card_kept.proofs.FirstFault.{first-fault-of-record, first-fault-decides}
 use Rattle.payroll_file.proofs.FileRows.{going-stage}
 use Rattle.payroll_kept.proofs.FirstFault as payroll-record
 use Rattle.payroll_kept.proofs.FirstFaultOfFile as payroll-file
 use Rattle.demands.proofs.DaySheets.{sheet-there-and-back, sheet-converted, sheet-of-file}
+use Rattle.demands.proofs.Editions.{refused-outright}
 use Rattle.demands.proofs.Examples.{hold}
-use Rattle.demands.proofs.Feeding.{fed-as-whole, refused-for-good, bad-edition, after-accepted-close, one-past-the-last}
+use Rattle.demands.proofs.Feeding.{fed-as-whole, refused-for-good, after-accepted-close, one-past-the-last}
 use Rattle.demands.proofs.HiddenDigits.{hidden-digits-reach-nothing, masked-where-hidden}
 use Rattle.demands.proofs.HiddenDigitsExample.{twins-that-differ, credits-that-differ}
 use Rattle.demands.proofs.InChunks.{as-the-whole, after-the-end}
@@ -22,7 +24,7 @@ unfolding cardFileRow
 returns c =
     record {
       record-judged = λ st r going. first-fault-of-record st r (refusal-told (answerOf st) .1 going);
-      edition-first = edition-first;
+      edition-first = λ edition bad. refused-outright edition (unknown-fault edition bad);
       file-judged = first-fault-decides;
       payroll-record-judged = λ st r e. payroll-record.first-fault-of-record st r (going-stage (st .stage) .0 e);
       payroll-file-judged = payroll-file.first-fault-decides;
@@ -34,12 +36,12 @@ returns c =
       sheet-of-file = sheet-of-file;
       fed-as-whole = fed-as-whole;
       refused-for-good = λ st refusal e. refused-for-good st refusal (same-answer (answerOf st) (Refused refusal) e);
-      bad-edition = bad-edition;
       after-accepted-close = λ st e. after-accepted-close st _ (is-accepted (answerOf st) e);
       one-past-the-last = λ edition records e. one-past-the-last edition records _ (is-accepted _ e);
       in-chunks = as-the-whole;
       after-the-end = after-the-end;
       hidden-digits-reach-nothing = hidden-digits-reach-nothing;
+      edition-retired = λ edition old. refused-outright edition (retired-fault edition old);
       masked-where-hidden = masked-where-hidden;
       twins-that-differ = twins-that-differ;
       credits-that-differ = credits-that-differ;

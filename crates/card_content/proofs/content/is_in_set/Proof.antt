@@ -26,11 +26,11 @@ returns-5 c = rw (c .before .before .enum-told5 .given .1) (c .is-one-of3 .ensur
 
 returns-6 : tie.Need-returns-6
 unfolding inSet
-returns-6 c = rw (c .before .enum-told6 .given .1) (c .is-capture .ensures)
+returns-6 c = rw (c .before .before .enum-told6 .given .1) (c .is-in-row .ensures)
 
 returns-7 : tie.Need-returns-7
 unfolding inSet
-returns-7 c = rw (c .before .enum-told7 .given .1) (c .is-adjustment-capture .ensures)
+returns-7 c = rw (c .before .before .enum-told7 .given .1) (c .is-in-row2 .ensures)
 
 returns-8 : tie.Need-returns-8
 unfolding inSet
@@ -55,7 +55,9 @@ is-in-set-spec =
     (λ c. search needs)
     (λ c κs. search needs)
     (λ c. search needs)
+    (λ c. search needs)
     (λ c κs. search needs)
+    (λ c. search needs)
     (λ c. search needs)
     (λ c κs. search needs)
     (λ c. search needs)
