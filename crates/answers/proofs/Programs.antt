@@ -7,7 +7,8 @@ use native.Mathlib.Omega.{arith}
 use lib.IntN.{ℤ}
 use borrow.Author.Tests.{lt-ltb}
 use base.Fml.{Lft}
-use Rattle.refusal.specs.declared.Cause.the-variants.{EditionUnknown, EditionRetired}
+use Rattle.refusal.specs.declared.Cause.{Cause}
+use Rattle.refusal.specs.declared.Fault.the-variants.{At}
 use Rattle.refusal.specs.Nowhere.{nowhere}
 use Rattle.refusal.specs.Rules.{firstBroken}
 use Rattle.text.specs.Alphabet.{allowed, holdsOnly, firstStray}
@@ -60,6 +61,7 @@ use Rattle.sheet_numbers.specs.Converted.{converted}
 use Rattle.day_sheet.proofs.RoundTrip.{read-allowed}
 use Rattle.sheet_numbers.proofs.Conversions.{converted-allowed}
 use Rattle.sheet_program.specs.SheetRead.{convertedRead}
+use Rattle.edition.specs.Known.{editionFault}
 use Rattle.edition.proofs.Editions.{unknown-fault, retired-fault}
 use Rattle.card_kept.proofs.FirstFault.{edition-first}
 use Rattle.wording.specs.Number.{digitsWithin}
@@ -79,12 +81,10 @@ disagreeing bytes e =
     let kept = kept-means-kept 2 bytes .0 (record { numbers = _; answer = sym e }) in
     told (λ n. n) refl (plain-numbers 2 bytes _ (sym e) kept .settled .agree)
 
--- what every file gets under edition 3, and under edition 1
-under-3 : {x : CardAnswer} (bytes : List ℕ) → x ≡ checkOf 3 bytes → x ≡ Refused (nowhere EditionUnknown)
-under-3 bytes e = e ∙ edition-first 3 (unknown-fault 3 refl) bytes
-
-under-1 : {x : CardAnswer} (bytes : List ℕ) → x ≡ checkOf 1 bytes → x ≡ Refused (nowhere EditionRetired)
-under-1 bytes e = e ∙ edition-first 1 (retired-fault 1 refl) bytes
+-- what every file gets under an edition that is refused
+under : (edition : ℕ) {cause : Cause} {column : ℕ} {x : CardAnswer} → editionFault edition ≡ At cause column → (bytes : List ℕ) → x ≡ checkOf edition bytes →
+    x ≡ Refused (nowhere cause)
+under edition bad bytes e = e ∙ edition-first edition bad bytes
 
 -- what was converted tells no split as known, and is allowed
 no-split : (r : SheetRead) → Read bothSets ≡ convertedRead r → ⊥
@@ -125,17 +125,17 @@ programs κ fd =
       outcome-failed = (refl, told cardOutcomeRead refl);
       outcome-early = (refl, told cardOutcomeRead refl);
       check-totals = ((cardFile, refl), λ p. disagreeing (p .0) (p .1));
-      check-edition = (([], refl), λ p. told answerRead refl (under-3 (p .0) (p .1)));
-      work-edition = (([], refl), λ p. told answerRead refl (under-3 (p .0) (p .1)));
-      work-retired = (([], refl), λ p. told answerRead refl (under-1 (p .0) (p .1)));
+      check-edition = (([], refl), λ p. told answerRead refl (under 3 (unknown-fault 3 refl) (p .0) (p .1)));
+      work-edition = (([], refl), λ p. told answerRead refl (under 3 (unknown-fault 3 refl) (p .0) (p .1)));
+      work-retired = (([], refl), λ p. told answerRead refl (under 1 (retired-fault 1 refl) (p .0) (p .1)));
       work-word = (refl, told cardOutcomeRead refl);
       work-number = ((cardFile, refl), λ p. p);
-      mask-edition = (([], refl), λ p. told answerRead refl (under-3 (p .0) (p .1)));
-      mask-retired = (([], refl), λ p. told answerRead refl (under-1 (p .0) (p .1)));
+      mask-edition = (([], refl), λ p. told answerRead refl (under 3 (unknown-fault 3 refl) (p .0) (p .1)));
+      mask-retired = (([], refl), λ p. told answerRead refl (under 1 (retired-fault 1 refl) (p .0) (p .1)));
       mask-word = (refl, told cardOutcomeRead refl);
       mask-totals = ((cardFile, refl), λ p. disagreeing (p .0) (p .1));
-      write-edition = (([], refl), λ p. told answerRead refl (under-3 (p .0) (p .1)));
-      write-retired = (([], refl), λ p. told answerRead refl (under-1 (p .0) (p .1)));
+      write-edition = (([], refl), λ p. told answerRead refl (under 3 (unknown-fault 3 refl) (p .0) (p .1)));
+      write-retired = (([], refl), λ p. told answerRead refl (under 1 (retired-fault 1 refl) (p .0) (p .1)));
       write-word = (refl, told cardOutcomeRead refl);
       write-totals = ((cardFile, refl), λ p. disagreeing (p .0) (p .1));
       sheet-edition = ((bytesOf (sheetOf 2 9750), refl), λ p. told bit refl (read-allowed (p .0) _ (sym (p .1))));

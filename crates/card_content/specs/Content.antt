@@ -26,7 +26,7 @@ isCurrency p = sameBytes p (ascii "RE") || (sameBytes p (ascii "DO") || (sameByt
 abbrev pub inRow : ℕ → List ℕ → ℕ → List ℕ → Bool
 inRow row values edition p = eqb edition row && oneByteOf values p
 
--- "capture 54 (1 to 9 ..)"
+-- "capture 54 (1 to 9, and 7 only under edition 2)"
 abbrev pub isCapture : ℕ → List ℕ → Bool
 isCapture = inRow 2 (ascii "123456789")
 

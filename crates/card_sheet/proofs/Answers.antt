@@ -1,29 +1,26 @@
 -- The output that goes with each answer.
 use Prim.Native.Nat.{ℕ}
-use mathlib.Core.Path.{_≡_, sym, _∙_, ap}
+use mathlib.Core.Path.{_≡_, refl, sym, _∙_, ap}
 use mathlib.Core.List.{List}
 use lib.ListN.{length}
-use borrow.Author.Tests.{le-leb}
 use Rattle.refusal.specs.declared.Refusal.{Refusal}
 use Rattle.card_run.specs.declared.answer.Accepted.{Accepted as Numbers}
 use Rattle.card_run.specs.declared.answer.CardAnswer.{CardAnswer}
 use Rattle.card_run.specs.declared.answer.CardAnswer.the-variants.{GoingOn, Accepted, Refused}
 use Rattle.card_file.proofs.Rooms.{has-room, was-checked}
 use Rattle.sheet_numbers.specs.declared.sheet.Sheet.{Sheet}
-use Rattle.day_sheet.specs.Writing.{putResult, writeResult}
+use Rattle.day_sheet.specs.Writing.{writeResult}
+use Rattle.day_sheet.proofs.Writings.{put, was-put}
 use Rattle.card_sheet.specs.SheetOf.{sheetFrom, sheetAnswer, sheetInto, SheetOf}
 use Rattle.card_sheet.proofs.Allowed.{accepted-allowed, accepted-new}
 
 -- the sheet of an accepted file is written
 written : (edition : ℕ) (file out : List ℕ) (a : Numbers) → sheetAnswer edition file (length out) ≡ Accepted a → writeResult (sheetFrom edition a) out ≡ sheetInto edition (Accepted a) out
-unfolding sheetInto writeResult putResult
+unfolding sheetInto
 written edition file out a e =
     let checked = was-checked edition file 81 (length out) a e in
-    rw (
-      accepted-new edition file a checked,
-      accepted-allowed edition file a checked,
-      le-leb 81 (length out) (has-room edition file 81 (length out) a e),
-    )
+    let there = put (sheetFrom edition a) out (has-room edition file 81 (length out) a e) refl in
+    sym (was-put (sheetFrom edition a) out (accepted-new edition file a checked) (accepted-allowed edition file a checked) there .leaves)
 
 -- an answer, and the output that goes with it
 module _ (edition : ℕ) (file out : List ℕ) {answer : CardAnswer} (given : answer ≡ sheetAnswer edition file (length out)) where

@@ -1,8 +1,9 @@
 -- The cases of putting and of writing, by what their tests say; what is put are a sheet's bytes, for either version.
 use Prim.Native.Nat.{ℕ, _+_, _≤_, _<_}
 use mathlib.Core.Path.{_≡_, sym, _∙_, ap}
+use mathlib.Core.Logic.{_⊎_, inl, inr}
 use mathlib.Core.List.{List, _++_}
-use mathlib.Core.Bool.{true, false}
+use mathlib.Core.Bool.{Bool, true, false, cond}
 use borrow.Author.Tests.{le-leb, lt-leb}
 use lib.ListN.{length, take, drop}
 use lib.Dec.{lit≤}
@@ -68,3 +69,17 @@ module _ (s : Sheet) (out : List ℕ) where
     pub was-put : {answer : SheetWritten} {after : List ℕ} → sheetAllowed s ≡ true → PutInto s out answer after → Writes s out answer after
     unfolding writeAnswer writeResult
     was-put e p = record { answers = p .answers ∙ sym (rw (new, e)); leaves = p .leaves ∙ sym (rw (new, e)) }
+
+-- what writing does: it puts the sheet, or refuses before that and leaves the output
+abbrev pub PutOrRefused : Sheet → List ℕ → SheetWritten → List ℕ → Type 0
+PutOrRefused s out answer after = PutInto s out answer after ⊎ ((r : Refusal) × (answer ≡ Refused r) × (after ≡ out))
+
+pub put-or-refused : (s : Sheet) (out : List ℕ) {answer : SheetWritten} {after : List ℕ} → Writes s out answer after → PutOrRefused s out answer after
+unfolding writeAnswer writeResult
+put-or-refused s out {answer} {after} w = by (retired (sheetEdition s)) (sheetAllowed s) _ _ (w .answers) (w .leaves)
+  where
+    by : (old allowed : Bool) (q r : Refusal) → answer ≡ cond old (Refused q) (cond allowed (putAnswer s (length out)) (Refused r)) →
+        after ≡ cond old out (cond allowed (putResult s out) out) → PutOrRefused s out answer after
+    by true allowed q r e l = inr (q, e, l)
+    by false true q r e l = inl (record { answers = e; leaves = l })
+    by false false q r e l = inr (r, e, l)

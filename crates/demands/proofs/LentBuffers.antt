@@ -2,6 +2,7 @@
 -- only where it is a refusal.
 use Prim.Native.Nat.{ℕ}
 use mathlib.Core.Path.{_≡_, refl, sym, _∙_, ap}
+use mathlib.Core.Logic.{inl, inr}
 use mathlib.Core.List.{List}
 use mathlib.Core.Bool.{Bool, true, false, cond}
 use lib.ListN.{length}
@@ -19,14 +20,12 @@ use Rattle.day_sheet.specs.declared.writer.SheetWritten.{SheetWritten}
 use Rattle.day_sheet.specs.declared.writer.SheetWritten.the-variants.{Written, Refused as notWritten}
 use Rattle.day_sheet.specs.declared.reader.SheetRead.{SheetRead}
 use Rattle.day_sheet.specs.declared.reader.SheetRead.the-variants.{Read, Refused as unreadable}
-use Rattle.edition.specs.Known.{retired}
-use Rattle.sheet_numbers.specs.Edition.{sheetEdition}
-use Rattle.sheet_numbers.specs.Allowed.{sheetAllowed}
 use Rattle.day_sheet.specs.Reading.{readOf}
-use Rattle.day_sheet.specs.Writing.{sheetWidth, putAnswer, putResult, writeAnswer, writeResult}
+use Rattle.day_sheet.specs.Writing.{sheetWidth, putAnswer, putResult}
 use Rattle.sheet_numbers.specs.Converted.{converted}
 use Rattle.day_sheet.specs.Conversion.{convertAnswer, convertResult}
 use Rattle.day_sheet.specs.Answer.{noSheet, writtenRow}
+use Rattle.day_sheet.proofs.Writings.{PutOrRefused, put-or-refused}
 use Rattle.demands.specs.LentBuffers.{IfRefused, RefusedLeavesAlone}
 
 -- a card file's answer: the output that goes with a refusal is the one lent
@@ -56,13 +55,11 @@ not-put : (sheet : Sheet) (out : List ℕ) {answer : SheetWritten} → answer �
 unfolding putAnswer putResult
 not-put sheet out e refused = by-room (leb (sheetWidth sheet) (length out)) _ _ out e refused
 
--- writing refuses besides an edition that is retired, and what is not allowed; converting what cannot be read
-not-written : (old allowed : Bool) (sheet : Sheet) (out : List ℕ) (q r : Refusal) {answer : SheetWritten} →
-    answer ≡ cond old (notWritten q) (cond allowed (putAnswer sheet (length out)) (notWritten r)) → (writtenRow answer .refusal ≡ noRefusal → ⊥) →
-    cond old out (cond allowed (putResult sheet out) out) ≡ out
-not-written true allowed sheet out q r e refused = refl
-not-written false true sheet out q r e refused = not-put sheet out e refused
-not-written false false sheet out q r e refused = refl
+-- writing refuses before that too, and converting what cannot be read
+not-written : (sheet : Sheet) (out : List ℕ) {answer : SheetWritten} {after : List ℕ} → PutOrRefused sheet out answer after →
+    (writtenRow answer .refusal ≡ noRefusal → ⊥) → after ≡ out
+not-written sheet out (inl p) refused = p .leaves ∙ not-put sheet out (p .answers) refused
+not-written sheet out (inr left) refused = left .2
 
 not-converted : (read : SheetRead) (out : List ℕ) {answer : SheetWritten} → answer ≡ convertAnswer read (length out) →
     (writtenRow answer .refusal ≡ noRefusal → ⊥) → convertResult read out ≡ out
@@ -72,7 +69,7 @@ not-converted (unreadable r) out e refused = refl
 
 -- THE THEOREM
 pub refused-leaves-alone : RefusedLeavesAlone
-unfolding maskedInto sheetInto writeAnswer writeResult
+unfolding maskedInto sheetInto
 refused-leaves-alone =
     record {
       masking = λ edition file out answer after m.
@@ -82,7 +79,7 @@ refused-leaves-alone =
           let into : CardAnswer → List ℕ = λ a. sheetInto edition a out in
           card-alone into out after (λ r. refl) answer (s .leaves ∙ ap into (sym (s .answers)));
       writing-sheet = λ sheet out answer after w refused.
-          record { lent = w .leaves ∙ not-written (retired (sheetEdition sheet)) (sheetAllowed sheet) sheet out _ _ (w .answers) refused; counts = no-sheet answer };
+          record { lent = not-written sheet out (put-or-refused sheet out w) refused; counts = no-sheet answer };
       converting-sheet = λ sheet out answer after c refused.
           record { lent = c .leaves ∙ not-converted (readOf sheet) out (c .answers) refused; counts = no-sheet answer };
     }

@@ -1,14 +1,14 @@
 -- A sheet that was written into as many bytes as it has is all of them, and one that was converted is the first of them.
 use Prim.Native.Nat.{ℕ, _≤_}
 use mathlib.Core.Path.{_≡_, refl, sym, _∙_, ap}
+use mathlib.Core.Logic.{inl, inr}
 use mathlib.Core.List.{List, _++_, append-nil}
-use mathlib.Core.Bool.{Bool, true, false, cond, true≢false}
+use mathlib.Core.Bool.{Bool, true, false, true≢false}
 use native.Mathlib.Omega.{arith}
 use lib.ListN.{length, take, drop, drop-of-length-le}
 use lib.Seq.{take-at}
 use borrow.Author.Tests.{le-leb}
 use Rattle.refusal.specs.declared.Refusal.{Refusal}
-use Rattle.edition.specs.Known.{retired}
 use Rattle.sheet_numbers.specs.declared.sheet.Sheet.{Sheet}
 use Rattle.day_sheet.specs.declared.reader.SheetRead.{SheetRead}
 use Rattle.day_sheet.specs.declared.reader.SheetRead.the-variants.{Read, Refused as unread}
@@ -18,25 +18,17 @@ use Rattle.day_sheet.specs.declared.layout.Version.{Version}
 use Rattle.day_sheet.specs.declared.layout.Version.the-variants.{One, Two}
 use Rattle.day_sheet.specs.Version.{widthOf}
 use Rattle.day_sheet.specs.Sheet.{versionOf, bytesOf}
-use Rattle.sheet_numbers.specs.Edition.{sheetEdition}
-use Rattle.sheet_numbers.specs.Allowed.{sheetAllowed}
 use Rattle.day_sheet.specs.Reading.{readOf}
-use Rattle.day_sheet.specs.Writing.{sheetWidth, putResult, writeAnswer, writeResult, Writes}
+use Rattle.day_sheet.specs.Writing.{sheetWidth, putResult, Writes}
 use Rattle.sheet_numbers.specs.Converted.{converted}
 use Rattle.day_sheet.specs.Conversion.{convertResult, Converts}
 use Rattle.day_sheet.proofs.RoundTrip.{bytes-length}
+use Rattle.day_sheet.proofs.Writings.{PutOrRefused, put-or-refused}
 use Rattle.sheet_program.specs.SheetRead.{convertedRead}
 
 abbrev isWritten : SheetWritten → Bool
 isWritten Written = true
 isWritten (Refused refusal) = false
-
--- what was written was put: neither test of writing refused it
-was-put : (old allowed : Bool) (q r : Refusal) (answer : SheetWritten) (put out : List ℕ) → Written ≡ cond old (Refused q) (cond allowed answer (Refused r)) →
-    cond old out (cond allowed put out) ≡ put
-was-put true allowed q r answer put out e = absurd (true≢false (ap isWritten e))
-was-put false true q r answer put out e = refl
-was-put false false q r answer put out e = absurd (true≢false (ap isWritten e))
 
 module _ (sheet : Sheet) (out : List ℕ) where
   put-there : sheetWidth sheet ≤ length out → putResult sheet out ≡ bytesOf sheet ++ drop (sheetWidth sheet) out
@@ -45,11 +37,13 @@ module _ (sheet : Sheet) (out : List ℕ) where
 
   pub whole-sheet : {answer : SheetWritten} {after : List ℕ} → length out ≡ sheetWidth sheet → Writes sheet out answer after → answer ≡ Written →
       after ≡ bytesOf sheet
-  unfolding writeAnswer writeResult
-  whole-sheet l w e =
-      w .leaves ∙ was-put (retired (sheetEdition sheet)) (sheetAllowed sheet) _ _ _ (putResult sheet out) out (sym e ∙ w .answers) ∙ put-there (omega arith) ∙
-      ap (λ (rest : List ℕ). bytesOf sheet ++ rest) (drop-of-length-le out {i = sheetWidth sheet} (omega arith)) ∙
-      append-nil (bytesOf sheet)
+  whole-sheet {answer} {after} l w e = by (put-or-refused sheet out w)
+    where
+      by : PutOrRefused sheet out answer after → after ≡ bytesOf sheet
+      by (inl p) =
+          p .leaves ∙ put-there (omega arith) ∙ ap (λ (rest : List ℕ). bytesOf sheet ++ rest) (drop-of-length-le out {i = sheetWidth sheet} (omega arith)) ∙
+          append-nil (bytesOf sheet)
+      by (inr left) = absurd (true≢false (ap isWritten (sym e ∙ left .1)))
 
 -- there is room for either version
 pub width-within : (v : Version) {width : ℕ} → width ≡ widthOf v → width ≤ 81
