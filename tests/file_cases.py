@@ -1,5 +1,5 @@
 #!/usr/bin/env python3
-"""The cases of the programs' work, written by hand from document 01 and requests Q-4, Q-5, Q-7 and Q-11 of document 02.
+"""The cases of the programs' work, written by hand from document 01 and requests Q-4, Q-5, Q-7, Q-11 and Q-14 of document 02.
 
     tests/file_cases.py
 
@@ -126,6 +126,7 @@ NO_WRITE = b"OUT cannot be written, so give a file's name in a folder where you 
 OUT_NO_FILE = b"OUT is there and no regular file: give a file's name, or one that is not there.\n"
 
 NO_OUT = b"no OUT\n"
+SAME, NOT_SAME = b"the same bytes\n", b"not the same bytes\n"
 BEFORE = b"from before\n"
 # DSH, version 2, edition 2, 20231115, 000042, and 3; settled 3, 50990 (C72E), 1275 (4FB), 49715 (C233); 1, since the split is known; and forecast 1,
 # 15000 (3A98), 375 (177), 14625 (3921), high byte first.
@@ -136,6 +137,10 @@ DAY_IN_HEX = (b"445348" b"0002" b"02" b"3230323331313135" b"303030303432" b"0000
 ADJUSTED_IN_HEX = (b"445348" b"0002" b"02" b"3230323331313135" b"303030303433" b"00000002"
                    b"00000002" b"00000000000061a8" b"0000000000000271" b"0000000000005f37"
                    b"01" b"00000000" b"0000000000000000" b"0000000000000000" b"0000000000000000\n")
+# And of the long day: 1; 700 (2BC), 7000000 (6ACFC0), 175000 (2AB98), 6825000 (682428).
+LONG_IN_HEX = (b"445348" b"0002" b"02" b"3230323331313135" b"303030303432" b"00000001"
+               b"000002bc" b"00000000006acfc0" b"000000000002ab98" b"0000000000682428"
+               b"01" b"00000000" b"0000000000000000" b"0000000000000000" b"0000000000000000\n")
 # Version 1 of the day, with both sets added: 4, 65990 (101C6), 1650 (672), 64340 (FB54).
 OLD_IN_HEX = (b"445348" b"0001" b"02" b"3230323331313135" b"303030303432" b"00000003"
               b"00000004" b"00000000000101c6" b"0000000000000672" b"000000000000fb54\n")
@@ -173,11 +178,13 @@ NO_SHEET, NO_VERSION, NO_NUMBERS = refused(15, 0, 0), refused(16, 0, 0), refused
 
 # What is asked, or done to the folder `work` of a case and to OUT in it (src/step.rt).
 CARD, PAYROLL, MASK, SHEET, READ, CONVERT = b"C", b"P", b"M", b"S", b"R", b"V"
-FOLDER, PUT, LINES, HEX, HASH, LEAVE = b"F", b"W", b"L", b"X", b"H", b"E"
+FOLDER, PUT, LINES, HEX, HASH, COMPARE, LEAVE = b"F", b"W", b"L", b"X", b"H", b"Q", b"E"
 
 WORK = b"work"
 OUT = b"work/out"
 BACK = b"work/back"
+AGAIN = b"work/again"
+SHEET_OF_FILE, SHEET_OF_COPY = b"work/sheet", b"work/sheet-of-copy"
 
 STEPS = []
 STDOUT = []
@@ -237,6 +244,28 @@ def ask_there_and_back(title, file, text, content, text_back, content_back):
     leave(HEX, content)
 
 
+def compare(title, one, other, text):
+    step(COMPARE, title=title + b"\n", file=one, out=other)
+    STDOUT.append(title + b"\n" + text)
+
+
+def ask_twice(title, file, text, shown, content, sheet):
+    """A file masked, and its copy masked: both copies are the same bytes, and so are the sheets of the file and of its copy."""
+    enter()
+    ask(MASK, title, b"2", file, text, OUT)
+    ask(CARD, b"and its copy checked", b"2", OUT, text)
+    ask(MASK, b"and masked again", b"2", OUT, text, AGAIN)
+    compare(b"both copies", OUT, AGAIN, SAME)
+    compare(b"the file and its copy", file, OUT, NOT_SAME)
+    ask(SHEET, b"the sheet of the file", b"2", file, text, SHEET_OF_FILE)
+    ask(SHEET, b"the sheet of its copy", b"2", OUT, text, SHEET_OF_COPY)
+    compare(b"both sheets", SHEET_OF_FILE, SHEET_OF_COPY, SAME)
+    show(HEX, sheet, SHEET_OF_FILE)
+    show(HEX, sheet, SHEET_OF_COPY)
+    show(shown, content, AGAIN)
+    leave(shown, content)
+
+
 # ---- The cases -----------------------------------------------------------------------------------------------------------------------------
 
 ask(CARD, b"card, a day", b"2", b"day.card", DAY)
@@ -274,6 +303,10 @@ ask(MASK, b"mask, OUT is FILE", b"2", OUT, DAY, OUT)
 leave(LINES, MASKED_DAY)
 ask_alone(MASK, b"mask, a day with adjustments", b"2", b"adjusted.card", ADJUSTED, LINES, MASKED_ADJUSTED)
 ask_alone(MASK, b"mask, three chunks", b"2", b"long.card", LONG_DAY, HASH, hash_of(MASKED_LONG))
+# twice: of sales, of adjustments, and of a file that comes in three chunks
+ask_twice(b"mask twice, a day", b"day.card", DAY, LINES, MASKED_DAY, DAY_IN_HEX)
+ask_twice(b"mask twice, a day with adjustments", b"adjusted.card", ADJUSTED, LINES, MASKED_ADJUSTED, ADJUSTED_IN_HEX)
+ask_twice(b"mask twice, three chunks", b"long.card", LONG_DAY, HASH, hash_of(MASKED_LONG), LONG_IN_HEX)
 ask_alone(MASK, b"mask, refused", b"2", b"refused.card", REFUSED, LINES, NO_OUT)
 ask_alone(MASK, b"mask, refused over an OUT", b"2", b"refused.card", REFUSED, LINES, BEFORE, before=BEFORE)
 # its 703 records keep the rules, and A9 does not come

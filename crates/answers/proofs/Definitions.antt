@@ -11,6 +11,7 @@ use Rattle.calendar.specs.Time.{isTime}
 use Rattle.calendar.specs.When.{whenRules}
 use Rattle.pan.specs.CardField.{wellFormed, leadingZeros}
 use Rattle.pan.specs.HiddenPlaces.{hiddenPlaces}
+use Rattle.pan.specs.Masked.{starWhere}
 use Rattle.lines.specs.Lines.{inFront, cut, joined, endsInCr, withoutLast}
 use Rattle.card_content.specs.Content.{inSet, dayOrZerosRules, cardOrBlanksRules, contentRules}
 use Rattle.card_content.specs.Field.{tableRules, recordRules}
@@ -42,13 +43,14 @@ use Rattle.payroll_file.specs.PayrollFile.{
 }
 use Rattle.payroll_kept.proofs.KeptMeansKept as payroll-law
 use Rattle.card_run.proofs.FileRows.{isAccepted}
+use Rattle.card_mask.specs.Masked.{maskedAt}
 use Rattle.demands.specs.HiddenDigits.{hiddenAt, hiddenInPieces}
 use Rattle.answers.specs.Definitions.{Definitions}
 use Rattle.answers.proofs.Told.{told, bit}
 use Rattle.answers.proofs.Observed.{payrollAnswerRead}
 
 pub definitions : Definitions
-unfolding firstBroken allowed holdsOnly firstStray valueFrom sameBytes hasByte oneByteOf daysIn isDay isTime whenRules wellFormed leadingZeros hiddenPlaces inFront cut joined endsInCr withoutLast inSet dayOrZerosRules cardOrBlanksRules contentRules tableRules recordRules joinedRules adjustmentRules cardPartFound kindNamed rightReading judgedAs readFound answerAt cardFileRow joinedAt rulesOf behind behindOrRefused tookAt closedAt unendedAt linesOf endOf numberRules strayAt segmentNamed payrollKindNamed readAs payrollReadFound foundRules dueRules payrollRunRules behindDetailAs payrollBehind payrollBehindOrRefused payrollTookAt payrollUnendedAt payrollLinesOf endedOf cutShortOf endAt hiddenAt hiddenInPieces lateAt
+unfolding firstBroken allowed holdsOnly firstStray valueFrom sameBytes hasByte oneByteOf daysIn isDay isTime whenRules wellFormed leadingZeros hiddenPlaces starWhere inFront cut joined endsInCr withoutLast inSet dayOrZerosRules cardOrBlanksRules contentRules tableRules recordRules joinedRules adjustmentRules cardPartFound kindNamed rightReading judgedAs readFound answerAt cardFileRow joinedAt rulesOf behind behindOrRefused tookAt closedAt unendedAt linesOf endOf numberRules strayAt segmentNamed payrollKindNamed readAs payrollReadFound foundRules dueRules payrollRunRules behindDetailAs payrollBehind payrollBehindOrRefused payrollTookAt payrollUnendedAt payrollLinesOf endedOf cutShortOf endAt maskedAt hiddenAt hiddenInPieces lateAt
 definitions =
     record {
       kept-other-card = kept-means-kept 2 _ .0 (record { numbers = _; answer = refl });
@@ -77,6 +79,9 @@ definitions =
       twins-open-digit = λ twins. told (λ n. n) refl (twins .same-byte 202 (lit< tt) refl);
       hidden-adjustment-from = (refl, refl);
       hidden-adjustment-to = (refl, refl);
+      masked-sale = refl;
+      masked-adjustment = refl;
+      hidden-in-one = λ same. told bit refl (same 193);
       rules-place-first = refl;
       refused-at-once = refl;
       refused-not-before = refl;

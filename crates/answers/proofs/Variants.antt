@@ -4,7 +4,7 @@ use mathlib.Core.Path.{_≡_, refl, sym, _∙_}
 use mathlib.Core.List.{[], _∷_, _++_}
 use mathlib.Core.Bool.{false≢true}
 use native.Mathlib.Omega.{arith}
-use lib.ListN.{length, getD, replicate}
+use lib.ListN.{length, getD, take, drop, replicate}
 use lib.Dec.{lit<}
 use Rattle.refusal.specs.declared.Cause.the-variants.{EditionRetired, SequenceWrong}
 use Rattle.refusal.specs.Nowhere.{nowhere}
@@ -19,10 +19,12 @@ use Rattle.calendar.specs.When.{whenRules}
 use Rattle.pan.specs.CardField.{wellFormed, leadingZeros}
 use Rattle.pan.specs.HiddenPlaces.{hiddenPlaces}
 use Rattle.pan.specs.Masked.{starWhere}
+use Rattle.pan.proofs.Stars.{equal-stars}
 use Rattle.lines.specs.Lines.{inFront, cut, joined, endsInCr, withoutLast, rejoined}
-use Rattle.card_content.specs.Content.{inSet, contentRules}
+use Rattle.card_content.specs.Content.{inSet, dayOrZerosRules, cardOrBlanksRules, contentRules}
 use Rattle.card_content.specs.Field.{tableRules, recordRules}
 use Rattle.card_sale.specs.Cv.{joinedRules}
+use Rattle.card_adjustment.specs.Aj.{joinedRules as adjustmentRules}
 use Rattle.card_record.specs.CardPart.{cardPartFound}
 use Rattle.card_record.specs.Kind.{kindNamed}
 use Rattle.card_record.specs.Reading.{rightReading, judgedAs, readFound}
@@ -36,8 +38,9 @@ use Rattle.card_run.specs.declared.stage.Stage.the-variants.{InBatch, Refused}
 use Rattle.card_run.specs.Running.{openOf}
 use Rattle.card_file.specs.Feeding.{fedAll}
 use Rattle.card_file.specs.Room.{answerWithRoom}
-use Rattle.card_mask.specs.Masked.{maskedAt}
+use Rattle.card_mask.specs.Masked.{maskedAt, maskedFile}
 use Rattle.card_mask.specs.Mask.{maskedInto}
+use Rattle.card_sheet.specs.SheetOf.{sheetInto}
 use Rattle.chunks.specs.Unfinished.{clippedWith}
 use Rattle.chunks.specs.Chunks.{heldBefore, joinedChunks}
 use Rattle.card_stream.specs.Stream.{openOf as streamOpen, behindEnd, withHeld}
@@ -70,7 +73,8 @@ use Rattle.day_sheet.specs.Answer.{readRow}
 use Rattle.demands.specs.Demands.{Demands}
 use Rattle.demands.specs.Examples.{asWritten, allAsWritten}
 use Rattle.demands.specs.Feeding.{called}
-use Rattle.demands.specs.HiddenDigits.{hiddenAt, hiddenInPieces}
+use Rattle.demands.specs.HiddenDigits.{hiddenAt, hiddenInPieces, hiddenIn}
+use Rattle.demands.specs.HiddenDigitsExample.{oneCredit}
 use Rattle.answers.specs.CardRun.{state, refusal, oneSale}
 use Rattle.answers.specs.DaySheet.{sheetOf, bothSets}
 use Rattle.demands.specs.ExampleFile.{a0, fileOf}
@@ -84,7 +88,7 @@ not-first : (n : ℕ) → 0 ≡ suc n → ⊥
 not-first n e = omega arith
 
 pub variants : (d : Demands) → Variants d
-unfolding firstBroken allowed holdsOnly valueFrom sameBytes hasByte oneByteOf daysIn isDay isTime whenRules wellFormed leadingZeros hiddenPlaces starWhere inFront cut joined endsInCr withoutLast rejoined inSet contentRules tableRules recordRules joinedRules cardPartFound kindNamed rightReading judgedAs readFound answerAt cardFileRow joinedAt rulesOf behind behindOrRefused tookAt closedAt unendedAt linesOf endOf lateAt fedAll answerWithRoom maskedAt maskedInto clippedWith heldBefore joinedChunks behindEnd withHeld firstStray numberRules strayAt segmentNamed payrollKindNamed readAs payrollReadFound foundRules dueRules payrollRunRules behindDetailAs payrollBehind payrollBehindOrRefused payrollTookAt payrollUnendedAt payrollLinesOf endedOf cutShortOf endAt payrollRow stateRow inBase valueIn inPlaces fromPlaces digitsRight sheetRow bytesOf withinLimits setAllowed setsAllowed headingAllowed noneOf splitAllowed sheetAllowed sheetAs readOf putAnswer putResult writeAnswer writeResult converted convertAnswer convertResult readRow asWritten allAsWritten called hiddenAt hiddenInPieces
+unfolding firstBroken allowed holdsOnly valueFrom sameBytes hasByte oneByteOf daysIn isDay isTime whenRules wellFormed leadingZeros hiddenPlaces starWhere inFront cut joined endsInCr withoutLast rejoined inSet dayOrZerosRules cardOrBlanksRules contentRules tableRules recordRules joinedRules adjustmentRules cardPartFound kindNamed rightReading judgedAs readFound answerAt cardFileRow joinedAt rulesOf behind behindOrRefused tookAt closedAt unendedAt linesOf endOf lateAt fedAll answerWithRoom maskedAt maskedInto sheetInto clippedWith heldBefore joinedChunks behindEnd withHeld firstStray numberRules strayAt segmentNamed payrollKindNamed readAs payrollReadFound foundRules dueRules payrollRunRules behindDetailAs payrollBehind payrollBehindOrRefused payrollTookAt payrollUnendedAt payrollLinesOf endedOf cutShortOf endAt payrollRow stateRow inBase valueIn inPlaces fromPlaces digitsRight sheetRow bytesOf withinLimits setAllowed setsAllowed headingAllowed noneOf splitAllowed sheetAllowed sheetAs readOf putAnswer putResult writeAnswer writeResult converted convertAnswer convertResult readRow asWritten allAsWritten called hiddenAt hiddenInPieces
 variants d =
     record {
       record-judged = λ wrong.
@@ -126,6 +130,22 @@ variants d =
       after-the-end = λ wrong. told (λ row. row .refusal .number) refl (wrong (streamOpen 2) 65 []);
       hidden-digits-reach-nothing = λ wrong. told (λ row. bit (row .accepted)) refl (wrong 2 cardFile (fileOf (at 77 "00000009751" sale)) refl);
       masked-where-hidden = λ wrong. told (λ n. n) refl (sym (d .masked-where-hidden cardFile .at-each 192 (lit< tt)) ∙ wrong cardFile 192);
+      as-the-file = λ wrong. told (λ row. row .refusal .number) refl (wrong 2 cardFile 0);
+      sheet-of-copy = λ wrong.
+          told (λ s. getD s 0 0) refl
+          (wrong 2 3 cardFile (replicate 81 0) _ _ _ _ (record { answers = refl; leaves = refl }) (record { answers = refl; leaves = refl }));
+      masked-in-chunks = λ wrong. told (λ row. bit (row .accepted)) refl (wrong 2 (cardFile ∷ []) (maskedFile cardFile ∷ []) refl);
+      copied-chunk-by-chunk = λ wrong. told (λ s. getD s 193 0) refl (wrong (take 190 cardFile ∷ drop 190 cardFile ∷ []));
+      same-bytes = λ wrong. told (λ s. getD s 193 0) refl (wrong cardFile);
+      written-again = λ wrong.
+          told length refl
+          (wrong 2 cardFile (replicate (length cardFile) 0) [] _ _ _ _ (record { answers = refl; leaves = refl }) refl (record { answers = refl; leaves = refl }));
+      equal-copies = λ wrong.
+          let other = fileOf (at 97 "A" sale) in
+          told (λ s. getD s 193 0) refl (wrong cardFile other .1 (equal-stars (hiddenIn cardFile) cardFile other .0 refl));
+      equal-but-for-digits = λ wrong.
+          let twins = wrong 2 oneCredit (maskedFile oneCredit) refl refl .0 (sym (d .mask-twice .same-bytes oneCredit)) in
+          told (λ n. n) refl (twins .same-byte 268 (lit< tt) refl);
       twins-that-differ = d .twins-that-differ .differ;
       credits-that-differ = d .credits-that-differ .differ;
       examples-hold = λ wrong. false≢true wrong;

@@ -16,6 +16,7 @@ use Rattle.card_kept.specs.FirstFault.{rulesAt}
 use Rattle.demands.specs.ExampleFile.{a0, l0, l9, a9, fileOf, creditFileOf}
 use Rattle.demands.specs.HiddenDigits.{hiddenIn, TwinFiles}
 use Rattle.demands.specs.LentBuffers.{LeftAlone}
+use Rattle.demands.specs.MaskTwice.{RecordAndMasked, SameHiddenIn}
 use Rattle.answers.specs.CardRun.{state, refusal, noSale, oneSale, accepted}
 use Rattle.answers.specs.Samples.{
   at,
@@ -68,6 +69,10 @@ pub record Definitions : Type 0 where
   -- the places of an adjustment's card
   pub hidden-adjustment-from : (hiddenIn adjustedFile 468 ≡ false) × (hiddenIn adjustedFile 469 ≡ true)
   pub hidden-adjustment-to : (hiddenIn adjustedFile 474 ≡ true) × (hiddenIn adjustedFile 475 ≡ false)
+  -- the masked form of a sale and of an adjustment; `SameHiddenIn`: said of a card that is not well formed too
+  pub masked-sale : RecordAndMasked sale (at 97 "******" sale)
+  pub masked-adjustment : RecordAndMasked credit (at 172 "******" credit)
+  pub hidden-in-one : SameHiddenIn cardFile (fileOf (at 97 "A" sale)) → ⊥
   -- `rulesAt`: the place judged behind the width
   pub rules-place-first : firstBroken (rulesAt (state BetweenBatches 1 noSale) (at 200 "0" sale)) ≡ faultAt KindNotAllowedHere 0
   -- `upTo`: a refusal that shows a record late, and one that shows before its record

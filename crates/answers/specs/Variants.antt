@@ -3,13 +3,16 @@
 use Prim.Native.Nat.{ℕ, _+_}
 use mathlib.Core.Path.{_≡_}
 use mathlib.Core.Logic.{_↔_}
-use mathlib.Core.List.{List, [], _∷_, _++_}
+use mathlib.Core.List.{List, [], _∷_, _++_, map}
 use mathlib.Core.Bool.{true, false, cond}
-use lib.ListN.{length, getD, replicate}
+use lib.ListN.{length, getD, take, drop, replicate}
+use lib.Dec.{eqb}
 use Rattle.refusal.specs.declared.Cause.the-variants.{EditionUnknown, EditionRetired}
 use Rattle.refusal.specs.declared.Refusal.{Refusal}
 use Rattle.refusal.specs.Nowhere.{nowhere}
 use Rattle.refusal.specs.Row.{noRefusal}
+use Rattle.pan.specs.AgreeOutside.{AgreeOutside}
+use Rattle.pan.specs.Masked.{starWhere}
 use Rattle.lines.specs.Lines.{cut}
 use Rattle.chunks.specs.Chunks.{joinedChunks}
 use Rattle.edition.specs.Known.{current, retired, known}
@@ -22,7 +25,7 @@ use Rattle.card_file.specs.CardFile.{checkOf}
 use Rattle.card_kept.specs.FirstFault.{FirstFaultOfRecord, FirstFaultDecides}
 use Rattle.card_kept.specs.Kept.{Kept, salesOf}
 use Rattle.card_kept.specs.Numbers.{TotalsOf}
-use Rattle.card_sheet.specs.SheetOf.{sheetFrom}
+use Rattle.card_sheet.specs.SheetOf.{sheetFrom, SheetOf}
 use Rattle.card_sheet.specs.PlainSheet.{plainSheet1}
 use Rattle.card_mask.specs.Mask.{Masks}
 use Rattle.card_mask.specs.Masked.{maskedFile}
@@ -50,9 +53,10 @@ use Rattle.demands.specs.Demands.{Demands}
 use Rattle.demands.specs.Editions.{RefusedOutright}
 use Rattle.demands.specs.Examples.{agrees, allAsWritten}
 use Rattle.demands.specs.Feeding.{FedAsWhole, RefusedForGood, AfterAcceptedClose, OnePastTheLast, afterTheEnd}
-use Rattle.demands.specs.HiddenDigits.{hiddenIn}
+use Rattle.demands.specs.HiddenDigits.{hiddenIn, TwinFiles}
 use Rattle.demands.specs.HiddenDigitsExample.{oneFile, otherFile, oneCredit, otherCredit}
-use Rattle.demands.specs.InChunks.{cardTaken}
+use Rattle.demands.specs.InChunks.{cardTaken, cardInChunks}
+use Rattle.demands.specs.MaskTwice.{FileAndMasked}
 
 -- a demand, and a variant of it that does not hold
 abbrev pub NotSo : {Right : Type 0} → Right → Type 0 → Type 0
@@ -127,6 +131,28 @@ pub record Variants (d : Demands) : Type 0 where
   -- the places one late
   pub masked-where-hidden : NotSo (d .masked-where-hidden)
       ((file : List ℕ) (i : ℕ) → getD (maskedFile file) i 0 ≡ cond (hiddenIn file (i + 1)) 42 (getD file i 0))
+  -- the masked form: a star at any place; asked for its sheet under another edition; in chunks, before the end; each chunk masked for itself
+  pub as-the-file : NotSo (d .mask-twice .as-the-file .whole)
+      ((edition : ℕ) (file : List ℕ) (place : ℕ) → cardFileRow (checkOf edition (starWhere (eqb place) file)) ≡ cardFileRow (checkOf edition file))
+  pub sheet-of-copy : NotSo (d .mask-twice .as-the-file .sheets)
+      ((edition other : ℕ) (file out : List ℕ) (answer answer-of-copy : CardAnswer) (after after-of-copy : List ℕ) →
+      SheetOf edition file out answer after → SheetOf other (maskedFile file) out answer-of-copy after-of-copy → after ≡ after-of-copy)
+  pub masked-in-chunks : NotSo (d .mask-twice .as-the-file .in-chunks)
+      ((edition : ℕ) (cs ds : List (List ℕ)) → FileAndMasked (joinedChunks cs) (joinedChunks ds) →
+      cardFileRow (cardInChunks edition cs) ≡ cardFileRow (stream.answerOf (cardTaken edition ds)))
+  pub copied-chunk-by-chunk : NotSo (d .mask-twice .as-the-file .copied) ((cs : List (List ℕ)) → maskedFile (joinedChunks cs) ≡ joinedChunks (map maskedFile cs))
+  -- masking again gives the file back
+  pub same-bytes : NotSo (d .mask-twice .same-bytes) ((file : List ℕ) → maskedFile (maskedFile file) ≡ file)
+  -- into an output without room too
+  pub written-again : NotSo (d .mask-twice .written-again)
+      ((edition : ℕ) (file out other : List ℕ) (answer again : CardAnswer) (after after-again : List ℕ) →
+      Masks edition file out answer after → cardFileRow answer .accepted ≡ true → Masks edition (take (length file) after) other again after-again →
+      after-again ≡ take (length file) after ++ drop (length file) other)
+  -- without the same hidden places; and of accepted files, hidden digits for hidden places
+  pub equal-copies : NotSo (d .mask-twice .equal-copies) ((s t : List ℕ) → (maskedFile s ≡ maskedFile t) ↔ AgreeOutside (hiddenIn s) s t)
+  pub equal-but-for-digits : NotSo (d .mask-twice .equal-copies)
+      ((edition : ℕ) (s t : List ℕ) → cardFileRow (checkOf edition s) .accepted ≡ true → cardFileRow (checkOf edition t) .accepted ≡ true →
+      (maskedFile s ≡ maskedFile t) ↔ TwinFiles s t)
   -- one file and itself
   pub twins-that-differ : NotSo (d .twins-that-differ) (oneFile ≡ otherFile)
   pub credits-that-differ : NotSo (d .credits-that-differ) (oneCredit ≡ otherCredit)

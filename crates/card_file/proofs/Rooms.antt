@@ -1,10 +1,11 @@
--- A file that is accepted by a question that writes has room, and the check accepted it; under an edition that is refused the question refuses every file, whatever its room.
+-- A file that is accepted by a question that writes has room, and the check accepted it; with room the question answers as the check, and under an edition that is refused it refuses
+-- every file, whatever its room.
 use Prim.Native.Nat.{ℕ, _≤_}
 use mathlib.Core.Path.{_≡_, refl, sym, _∙_, ap}
 use mathlib.Core.List.{List, [], _∷_}
 use mathlib.Core.Bool.{Bool, true, false}
 use lib.Dec.{leb}
-use borrow.Author.Tests.{leb-true}
+use borrow.Author.Tests.{le-leb, leb-true}
 use Rattle.refusal.specs.declared.Cause.{Cause}
 use Rattle.refusal.specs.declared.Cause.the-variants.{OutputTooShort}
 use Rattle.refusal.specs.declared.Fault.{Fault}
@@ -41,19 +42,27 @@ module _ (edition : ℕ) (file : List ℕ) (need room : ℕ) where
   pub edition-refused : {cause : Cause} {column : ℕ} → editionFault edition ≡ At cause column → answerWithRoom edition file need room ≡ Refused (nowhere cause)
   edition-refused e = one-found (room-fault edition need room ∙ ap (λ f. earlierOf f (ruleOf OutputTooShort 0 (leb need room))) e)
 
+  -- with room, under an edition that is not
+  pub as-checked : editionFault edition ≡ Nothing → need ≤ room → answerWithRoom edition file need room ≡ checkOf edition file
+  as-checked e h = none-found (room-fault edition need room ∙ rw (e, le-leb need room h))
+
   -- accepted
   module _ (a : Numbers) (e : answerWithRoom edition file need room ≡ Accepted a) where
-    accepts : (f : Fault) (q : Bool) → answerBehind (earlierOf f (ruleOf OutputTooShort 0 q)) (checkOf edition file) ≡ Accepted a → (q ≡ true) × (checkOf edition file ≡ Accepted a)
-    accepts Nothing true e = (refl, e)
-    accepts Nothing false e = (cc, cc)
-    accepts (At cause column) q e = (cc, cc)
+    accepts : (f : Fault) (q : Bool) → answerBehind (earlierOf f (ruleOf OutputTooShort 0 q)) (checkOf edition file) ≡ Accepted a →
+        (f ≡ Nothing) × (q ≡ true) × (checkOf edition file ≡ Accepted a)
+    accepts Nothing true e = (refl, refl, e)
+    accepts Nothing false e = (cc, cc, cc)
+    accepts (At cause column) q e = (cc, cc, cc)
 
-    accepted : (leb need room ≡ true) × (checkOf edition file ≡ Accepted a)
+    accepted : (editionFault edition ≡ Nothing) × (leb need room ≡ true) × (checkOf edition file ≡ Accepted a)
     unfolding answerWithRoom
     accepted = accepts (editionFault edition) (leb need room) (ap (λ f. answerBehind f (checkOf edition file)) (sym (room-fault edition need room)) ∙ e)
 
+    pub right-edition : editionFault edition ≡ Nothing
+    right-edition = accepted .0
+
     pub has-room : need ≤ room
-    has-room = leb-true need room (accepted .0)
+    has-room = leb-true need room (accepted .1)
 
     pub was-checked : checkOf edition file ≡ Accepted a
-    was-checked = accepted .1
+    was-checked = accepted .2

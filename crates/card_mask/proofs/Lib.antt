@@ -5,4 +5,5 @@ pub mod Answers
 pub mod InChunks
 pub mod Finished
 mod Clear
+pub mod MaskedCard
 pub mod Again

@@ -47,16 +47,19 @@ with-card p k e c =
     sym (rw (e, c))
 
 -- masking keeps the length
-record-length : (r : List ℕ) (part : CardPart) → cardPart r ≡ part → length (maskedAt part r) ≡ length r
+pub record-length : (r : List ℕ) → length (maskedRecord r) ≡ length r
 unfolding maskedAt
-record-length r Nowhere e = refl
-record-length r (From k) e =
-    let inside = card-inside k r e in
-    simp (length-append, masked-length)
-    (let a = length-take-le k r (omega arith) in
-    let b = length-slice k (k + 19) r inside in
-    let c = length-drop (k + 19) r in
-    omega arith)
+record-length r = by (cardPart r) refl
+  where
+    by : (part : CardPart) → cardPart r ≡ part → length (maskedAt part r) ≡ length r
+    by Nowhere e = refl
+    by (From k) e =
+        let inside = card-inside k r e in
+        simp (length-append, masked-length)
+        (let a = length-take-le k r (omega arith) in
+        let b = length-slice k (k + 19) r inside in
+        let c = length-drop (k + 19) r in
+        omega arith)
 
 pub piece-length : (p : List ℕ) → length (maskedPiece p) ≡ length p
 piece-length p =
@@ -64,5 +67,5 @@ piece-length p =
     (λ e.
     let r = withoutLast p in
     let whole : length p ≡ length r + 1 = ap length (record-and-cr p e) ∙ length-append r (cr ∷ []) in
-    rw e (length-append (maskedRecord r) (cr ∷ []) ∙ ap (λ (n : ℕ). n + 1) (record-length r (cardPart r) refl) ∙ sym whole))
+    rw e (length-append (maskedRecord r) (cr ∷ []) ∙ ap (λ (n : ℕ). n + 1) (record-length r) ∙ sym whole))
     (λ e. ap length (sym (no-record p e)))

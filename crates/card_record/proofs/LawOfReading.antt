@@ -2,7 +2,6 @@
 -- It goes by the row of the record's kind: the fields but the card's keep clear of the card. A record with no card has nothing to hide, and needs no law.
 use Prim.Native.Nat.{ℕ, _+_}
 use mathlib.Core.Path.{_≡_, sym, _∙_, ap, ap₂}
-use mathlib.Core.Logic.{inl, inr}
 use mathlib.Core.List.{List, _∷_}
 use native.Mathlib.Omega.{arith}
 use lib.ListN.{length, length-drop}
@@ -10,10 +9,6 @@ use lib.Dec.{eqb}
 use borrow.Author.Tests.{leb-true}
 use Rattle.refusal.specs.declared.Cause.the-variants.{WrongWidth}
 use Rattle.refusal.specs.Rules.{ruleAt, firstBroken}
-use Rattle.pan.specs.Twins.{Twins}
-use Rattle.pan.proofs.Tests.{by-test}
-use Rattle.pan.proofs.Twins.{twins-unformed, twin-formed}
-use Rattle.pan.specs.CardField.{wellFormed}
 use Rattle.card_content.specs.declared.content.Content.the-variants.{Text}
 use Rattle.card_content.specs.EqualOutside.{EqualOutside}
 use Rattle.card_content.specs.Field.{field, tableRules, recordRules}
@@ -67,15 +62,6 @@ law-of-reading e from r s has same alike =
     ap (λ found. readFound found e r) known ∙
     same-reading (is .kind) from (is .row) r s same (is .wide) e alike ∙
     sym (ap (λ found. readFound found e s) (sym (same-kind (is .kind) from (is .row) r s same) ∙ known))
-
--- twins are alike
-twins-alike : {p q : List ℕ} → Twins p q → AlikeCards p q
-twins-alike {p} twins = by-test (wellFormed p) (λ e. inl (e, twin-formed twins e)) (λ e. inr (twins-unformed twins e))
-
--- so two records that are told apart by hidden digits only read the same
-pub twins-read : (e from : ℕ) (r s : List ℕ) → cardPart r ≡ From from → EqualOutside from (from + 19) r s →
-    Twins (cardFrom from r) (cardFrom from s) → readingOf e r ≡ readingOf e s
-twins-read e from r s has same twins = law-of-reading e from r s has same (twins-alike twins)
 
 -- and the other has its card at the same place
 pub same-place : (from : ℕ) (r s : List ℕ) → cardPart r ≡ From from → EqualOutside from (from + 19) r s → cardPart s ≡ From from

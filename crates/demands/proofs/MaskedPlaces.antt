@@ -1,10 +1,10 @@
 -- The masked copy of a file is the file with a star at each hidden place: of a record by its card's part, of a piece, and of pieces in a row.
-use Prim.Native.Nat.{ℕ, suc, _+_, _-_, _≤_}
+use Prim.Native.Nat.{ℕ, suc, _+_, _≤_}
 use mathlib.Core.Path.{_≡_, refl, sym, _∙_, ap, ap₂}
 use mathlib.Core.List.{List, [], _∷_, _++_, map, append-assoc}
-use mathlib.Core.Bool.{Bool, true, false, cond}
+use mathlib.Core.Bool.{Bool, false, cond}
 use native.Mathlib.Omega.{arith}
-use lib.ListN.{length, take, drop, length-append, length-take, take-append-drop}
+use lib.ListN.{length, take, drop, length-take, take-append-drop}
 use lib.Seq.{length-take-le, take-take}
 use Rattle.pan.specs.HiddenPlaces.{hiddenPlace}
 use Rattle.pan.specs.Masked.{starWhere, masked}
@@ -19,8 +19,7 @@ use Rattle.card_record.specs.CardPart.{cardPart, cardFrom}
 use Rattle.card_record.proofs.CardParts.{card-inside}
 use Rattle.card_mask.specs.Masked.{maskedAt, maskedRecord, maskedPiece, maskedFile}
 use Rattle.demands.specs.HiddenDigits.{hiddenInRecord, hiddenInPiece, hiddenInPieces, hiddenIn}
-use Rattle.demands.proofs.TwinRecords.{no-card, in-card, before-card, behind-card}
-use Rattle.demands.proofs.TwinFiles.{in-first, in-later}
+use Rattle.demands.proofs.HiddenPlaces.{no-card, in-card, before-card, behind-card, past-record, past-piece, in-none, in-first, in-later}
 
 -- starred in two parts
 in-parts : (p : ℕ → Bool) (n : ℕ) (s : List ℕ) → n ≤ length s → starWhere p s ≡ starWhere p (take n s) ++ starWhere (λ i. p (n + i)) (drop n s)
@@ -51,30 +50,6 @@ of-record r = by (cardPart r) refl
         ap₂ _++_ (in-parts (hiddenInRecord r) k front (omega arith) ∙ ap₂ _++_ before card) behind ∙
         append-assoc (take k r) (masked (cardFrom k r)) (drop (k + 19) r))
 
--- nothing is hidden at a record's end, nor at a piece's
-past-record : (r : List ℕ) (i : ℕ) → length r ≤ i → hiddenInRecord r i ≡ false
-past-record r i h = by (cardPart r) refl
-  where
-    by : (part : CardPart) → cardPart r ≡ part → hiddenInRecord r i ≡ false
-    by Nowhere e = no-card r e i
-    by (From k) e =
-        let inside = card-inside k r e in
-        let n : i ≡ k + 19 + (i - (k + 19)) = omega arith in
-        ap (hiddenInRecord r) n ∙ behind-card k r e (i - (k + 19))
-
-module _ (p : List ℕ) (e : endsInCr p ≡ true) where
-  as-record : (i : ℕ) → hiddenInPiece p i ≡ hiddenInRecord (withoutLast p) i
-  as-record i = rw e
-
-  one-more : length p ≡ length (withoutLast p) + 1
-  one-more = ap length (record-and-cr p e) ∙ length-append (withoutLast p) (cr ∷ [])
-
-past-piece : (p : List ℕ) → hiddenInPiece p (length p) ≡ false
-past-piece p =
-    by-test (endsInCr p)
-    (λ e. as-record p e (length p) ∙ past-record (withoutLast p) (length p) (omega (arith, one-more p e)))
-    (λ e. rw e)
-
 -- a piece
 of-piece : (p : List ℕ) → maskedPiece p ≡ starWhere (hiddenInPiece p) p
 unfolding starWhere
@@ -85,15 +60,11 @@ of-piece p =
     let end : starWhere (λ i. hiddenInRecord r (length r + i)) (cr ∷ []) ≡ cr ∷ [] =
     none-picked (λ i. hiddenInRecord r (length r + i)) (cr ∷ []) (λ i l. past-record r (length r + i) (omega arith)) in
     rw e (ap (λ l. l ++ (cr ∷ [])) (of-record r)) ∙
-    sym (same-tests (hiddenInPiece p) (hiddenInRecord r) p (λ i l. as-record p e i) ∙
+    sym (same-tests (hiddenInPiece p) (hiddenInRecord r) p (λ i l. rw e) ∙
     ap (starWhere (hiddenInRecord r)) (record-and-cr p e) ∙
     in-a-row (hiddenInRecord r) r (cr ∷ []) ∙
     ap (λ l. starWhere (hiddenInRecord r) r ++ l) end))
     (λ e. rw e (sym (none-picked (hiddenInPiece p) p (λ i l. rw e))))
-
-nothing : (i : ℕ) → hiddenInPieces [] i ≡ false
-unfolding hiddenInPieces
-nothing i = refl
 
 on : (n i : ℕ) → n + suc i ≡ n + 1 + i
 on n i = omega arith
@@ -101,7 +72,7 @@ on n i = omega arith
 -- pieces in a row
 of-pieces : (ps : List (List ℕ)) (rest : List ℕ) → rejoined (map maskedPiece ps) rest ≡ starWhere (hiddenInPieces ps) (rejoined ps rest)
 unfolding rejoined starWhere
-of-pieces [] rest = sym (none-picked (hiddenInPieces []) rest (λ i l. nothing i))
+of-pieces [] rest = sym (none-picked (hiddenInPieces []) rest (λ i l. in-none i))
 of-pieces (p ∷ ps) rest =
     let h = hiddenInPieces (p ∷ ps) in
     let s = rejoined ps rest in

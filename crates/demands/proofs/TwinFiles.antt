@@ -1,6 +1,6 @@
 -- Two files that differ only in hidden digits are cut into pieces that do so one by one: an LF is no digit, so it stands at the same places
 -- in both, and so does the CR that makes a piece a record.
-use Prim.Native.Nat.{ℕ, zero, suc, _+_, _-_, _≤_, _<_}
+use Prim.Native.Nat.{ℕ, zero, suc, _+_, _-_, _<_}
 use mathlib.Core.Path.{_≡_, refl, sym, _∙_, ap}
 use mathlib.Core.List.{List, [], _∷_, _++_}
 use mathlib.Core.Bool.{Bool, true, false, cond, false≢true, and-eq-true-iff}
@@ -8,13 +8,14 @@ use native.Mathlib.Omega.{arith}
 use lib.ListN.{length, getD, take, drop, length-append, List·getD-append}
 use lib.Seq.{take-at, getD-append-seam, drop-append-add}
 use lib.Dec.{eqb}
-use borrow.Author.Tests.{le-leb, lt-leb, eq-eqb, eqb-true, eqb-false}
+use borrow.Author.Tests.{eq-eqb, eqb-true, eqb-false}
 use Rattle.text.specs.Alphabet.{digit}
 use Rattle.pan.proofs.Tests.{by-test}
 use Rattle.lines.specs.Lines.{cr, lf, cut, rejoined, noLf, allNoLf, endsInCr, withoutLast}
 use Rattle.lines.proofs.Cuts.{cut-is-cut}
 use Rattle.lines.proofs.Ends.{last-byte, no-byte, all-but-one}
 use Rattle.demands.specs.HiddenDigits.{hiddenInRecord, hiddenInPiece, hiddenInPieces, hiddenIn, TwinsWhere, TwinRecords, TwinFiles}
+use Rattle.demands.proofs.HiddenPlaces.{in-first, in-later}
 use Rattle.demands.proofs.TwinLaws.{twins-back, twins-of, twins-where, none-hidden, no-digit, twins-front, twins-behind}
 
 -- two pieces, and two lists of them
@@ -48,17 +49,6 @@ lf-inside p s = simp length-append (omega arith)
 
 behind-lf : (p s : List ℕ) (n : ℕ) → length p ≡ n → drop (n + 1) (then-lf p s) ≡ s
 behind-lf p s n e = sym (ap (λ m. drop (m + 1) (then-lf p s)) e) ∙ drop-append-add p (lf ∷ s) 1
-
--- the hidden places of the first piece, and of those behind it
-pub in-first : (p : List ℕ) (ps : List (List ℕ)) (i : ℕ) → i ≤ length p → hiddenInPieces (p ∷ ps) i ≡ hiddenInPiece p i
-unfolding hiddenInPieces
-in-first p ps i h = rw (le-leb i (length p) h)
-
-pub in-later : (p : List ℕ) (ps : List (List ℕ)) (n i : ℕ) → length p ≡ n → hiddenInPieces (p ∷ ps) (n + 1 + i) ≡ hiddenInPieces ps i
-unfolding hiddenInPieces
-in-later p ps n i e =
-    let m : (n + 1 + i) - (length p + 1) ≡ i = omega arith in
-    rw (lt-leb (n + 1 + i) (length p) (omega arith)) (ap (hiddenInPieces ps) m)
 
 -- the first LF of one is no later than that of the other
 no-later : (h g : ℕ → Bool) (p q s t : List ℕ) → noLf q ≡ true → TwinsWhere h g (then-lf p s) (then-lf q t) → length p < length q → ⊥

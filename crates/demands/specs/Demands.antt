@@ -25,6 +25,7 @@ use Rattle.demands.specs.HiddenDigits.{HiddenDigitsReachNothing, MaskedW
 use Rattle.demands.specs.HiddenDigitsExample.{oneFile, otherFile, oneCredit, otherCredit, TwinsThatDiffer}
 use Rattle.demands.specs.InChunks.{AsTheWhole, AfterTheEnd}
 use Rattle.demands.specs.LentBuffers.{RefusedLeavesAlone}
+use Rattle.demands.specs.MaskTwice.{MaskTwice}
 use Rattle.demands.specs.RulesKept.{CardRulesKept, PayrollRulesKept}
 
 pub record Demands : Type 0 where
@@ -66,6 +67,8 @@ pub record Demands : Type 0 where
   pub edition-retired : (edition : ℕ) → retired edition ≡ true → RefusedOutright edition EditionRetired
   -- "The masked copy is the accepted file with a star at each such place"
   pub masked-where-hidden : (file : List ℕ) → MaskedWhereHidden file
+  -- "Mask twice, lose nothing"
+  pub mask-twice : MaskTwice
   -- there are such files
   pub twins-that-differ : TwinsThatDiffer oneFile otherFile
   pub credits-that-differ : TwinsThatDiffer oneCredit otherCredit

@@ -2,7 +2,9 @@ pub mod ExampleFile
 pub mod Examples
 pub mod Feeding
 pub mod InChunks
+pub mod ToldAlike
 pub mod HiddenDigits
+pub mod MaskTwice
 pub mod Editions
 pub mod LentBuffers
 pub mod RulesKept

@@ -3,6 +3,7 @@
 use cases::cursor;
 use cases::file;
 
+mod compare;
 mod folder;
 mod out;
 mod question;

@@ -1,6 +1,7 @@
 // A step: a letter that says what is to be done, and four texts, each behind its length: what is printed first, EDITION, FILE and OUT.
 ghost use Prim.Native.Nat.{_+_, _≤_, min};
 ghost use lib.ListN.{length};
+use crate::compare;
 use crate::folder;
 use crate::out;
 use crate::out::Shown;
@@ -26,6 +27,9 @@ const HEX: u64 = b'X' as u64;
 
 const HASH: u64 = b'H' as u64;
 
+// Tells whether FILE and OUT hold the same bytes.
+const COMPARE: u64 = b'Q' as u64;
+
 // Does what the letter says.
 fn run(letter: u64, edition: &[u8], file: &[u8], out: &[u8]) {
     match letter {
@@ -35,6 +39,7 @@ fn run(letter: u64, edition: &[u8], file: &[u8], out: &[u8]) {
         LINES => out::show(Shown::Lines, out),
         HEX => out::show(Shown::Hex, out),
         HASH => out::show(Shown::Hash, out),
+        COMPARE => compare::print(file, out),
         _ => question::print(letter, edition, file, out),
     }
 }

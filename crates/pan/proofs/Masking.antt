@@ -13,7 +13,7 @@ use Rattle.pan.specs.AgreeOutside.{AgreeOutside}
 use Rattle.pan.proofs.Tests.{by-test}
 use Rattle.pan.proofs.Agreement.{agree-back}
 use Rattle.pan.proofs.Formed.{width, each-byte, from-bytes}
-use Rattle.pan.proofs.Stars.{length-kept, at-place, same-tests, none-picked, twice, outside, equal-stars}
+use Rattle.pan.proofs.Stars.{length-kept, at-place, none-picked, outside, own-twice, own-equal}
 use Rattle.pan.proofs.HiddenPlaces.{none-hidden, same-places, same-hidden}
 
 -- the length stays
@@ -57,22 +57,11 @@ masked-hidden s i = ap (λ places. isAmong places i) (masked-places s)
 
 -- masking again changes nothing
 pub masked-again : (s : List ℕ) → masked (masked s) ≡ masked s
-masked-again s = same-tests (hiddenPlace (masked s)) (hiddenPlace s) (masked s) (λ i k. masked-hidden s i) ∙ twice (hiddenPlace s) s
+masked-again = own-twice hiddenPlace masked-hidden
 
 -- two masked fields are equal exactly when the fields agree outside the hidden places and have the same hidden places
 pub equal-masks : (s t : List ℕ) → (masked s ≡ masked t) ↔ (AgreeOutside (hiddenPlace s) s t × SameHiddenPlaces s t)
-equal-masks s t = (taken-apart, joined)
-  where
-    by-one-test : SameHiddenPlaces s t → masked t ≡ starWhere (hiddenPlace s) t
-    by-one-test same = same-tests (hiddenPlace t) (hiddenPlace s) t (λ i k. sym (same i))
-
-    taken-apart : masked s ≡ masked t → AgreeOutside (hiddenPlace s) s t × SameHiddenPlaces s t
-    taken-apart e =
-        let same : SameHiddenPlaces s t = λ i. sym (masked-hidden s i) ∙ ap (λ r. hiddenPlace r i) e ∙ masked-hidden t i in
-        (equal-stars (hiddenPlace s) s t .0 (e ∙ by-one-test same), same)
-
-    joined : AgreeOutside (hiddenPlace s) s t × SameHiddenPlaces s t → masked s ≡ masked t
-    joined h = equal-stars (hiddenPlace s) s t .1 (h .0) ∙ sym (by-one-test (h .1))
+equal-masks = own-equal hiddenPlace masked-hidden
 
 -- of well-formed fields it is enough that they agree outside the hidden places of one of them
 pub equal-masks-formed : (s t : List ℕ) → wellFormed s ≡ true → wellFormed t ≡ true →

@@ -117,3 +117,24 @@ equal-stars p s t = (λ e. agree-on (agree-back (outside p s)) (rw e (outside p 
     joined a =
         by-bytes p s (starWhere p t) (a .same-length ∙ sym (length-kept p t))
         (λ i k. covered (p i) (a .same-byte i k) ∙ sym (at-place p t i (rw (← a .same-length) k)))
+
+-- fields starred each by its own test, where starring a field leaves its test as it is
+module _ (test : List ℕ → ℕ → Bool) (stays : (s : List ℕ) (i : ℕ) → test (starWhere (test s) s) i ≡ test s i) where
+  -- starred again, a field stays as it is
+  pub own-twice : (s : List ℕ) → starWhere (test (starWhere (test s) s)) (starWhere (test s) s) ≡ starWhere (test s) s
+  own-twice s = same-tests (test (starWhere (test s) s)) (test s) (starWhere (test s) s) (λ i k. stays s i) ∙ twice (test s) s
+
+  -- and two of them are equal exactly when the fields agree outside the starred places and have the same starred places
+  pub own-equal : (s t : List ℕ) → (starWhere (test s) s ≡ starWhere (test t) t) ↔ (AgreeOutside (test s) s t × ((i : ℕ) → test s i ≡ test t i))
+  own-equal s t = (taken-apart, joined)
+    where
+      by-one-test : ((i : ℕ) → test s i ≡ test t i) → starWhere (test t) t ≡ starWhere (test s) t
+      by-one-test same = same-tests (test t) (test s) t (λ i k. sym (same i))
+
+      taken-apart : starWhere (test s) s ≡ starWhere (test t) t → AgreeOutside (test s) s t × ((i : ℕ) → test s i ≡ test t i)
+      taken-apart e =
+          let same : (i : ℕ) → test s i ≡ test t i = λ i. sym (stays s i) ∙ ap (λ r. test r i) e ∙ stays t i in
+          (equal-stars (test s) s t .0 (e ∙ by-one-test same), same)
+
+      joined : AgreeOutside (test s) s t × ((i : ℕ) → test s i ≡ test t i) → starWhere (test s) s ≡ starWhere (test t) t
+      joined h = equal-stars (test s) s t .1 (h .0) ∙ sym (by-one-test (h .1))

@@ -15,6 +15,7 @@ use Rattle.demands.proofs.HiddenDigits.{hidden-digits-reach-nothing, ma
 use Rattle.demands.proofs.HiddenDigitsExample.{twins-that-differ, credits-that-differ}
 use Rattle.demands.proofs.InChunks.{as-the-whole, after-the-end}
 use Rattle.demands.proofs.LentBuffers.{refused-leaves-alone}
+use Rattle.demands.proofs.MaskTwice.{mask-twice}
 use Rattle.demands.proofs.RulesKept.{card-rules-kept, payroll-rules-kept}
 use Rattle.demands.proofs.demands_hold.Statement.{statement}
 use Rattle.demands.proofs.demands_hold.Tie as tie
@@ -43,6 +44,7 @@ returns c =
       hidden-digits-reach-nothing = hidden-digits-reach-nothing;
       edition-retired = λ edition old. refused-outright edition (retired-fault edition old);
       masked-where-hidden = masked-where-hidden;
+      mask-twice = mask-twice;
       twins-that-differ = twins-that-differ;
       credits-that-differ = credits-that-differ;
       examples-hold = hold;

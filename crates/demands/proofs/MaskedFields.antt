@@ -1,5 +1,5 @@
--- Two records that differ only in hidden digits get the same answer and the same part from the field question: it looks at the kind, the width and
--- one field that is not the card's, and those keep clear of the card, which is computed for each number.
+-- A masked record gets the record's own answer and part from the field question: it looks at the kind, the width and one field that is not the card's, and
+-- those keep clear of the card, which is computed for each number.
 use Prim.Native.Nat.{ℕ}
 use mathlib.Core.Path.{_≡_, refl, sym, _∙_, ap}
 use mathlib.Core.List.{List}
@@ -20,8 +20,9 @@ use Rattle.sale_field.specs.declared.FieldAnswer.the-variants.{Offered, Refused
 use Rattle.sale_field.proofs.Below.{all-below, each-below}
 use Rattle.sale_field.proofs.Offers.{is-sale, is-offered, is-field, is-empty}
 use Rattle.sale_field.specs.Field.{offered, numbered, refusalOf, fieldOf}
-use Rattle.demands.specs.HiddenDigits.{TwinRecords}
-use Rattle.demands.proofs.TwinRecords.{same-part}
+use Rattle.card_mask.specs.Masked.{maskedRecord}
+use Rattle.card_mask.proofs.Pieces.{record-length}
+use Rattle.demands.proofs.MaskedRecords.{same-part}
 
 -- each field that is offered keeps clear of a sale's card
 keeps-clear : (n : ℕ) → offered n ≡ true → clear-of (cardOf Cv) (numbered n) ≡ true
@@ -39,16 +40,16 @@ sale-card r n e =
     let is = is-sale r n e in
     card-if Cv r (rw (is .0)) (is .1)
 
-module _ (r s : List ℕ) (w : TwinRecords r s) (n : ℕ) where
-  pub same-refusal : refusalOf r n ≡ refusalOf s n
+module _ (r : List ℕ) (n : ℕ) where
+  pub same-refusal : refusalOf (maskedRecord r) n ≡ refusalOf r n
   unfolding refusalOf
-  same-refusal = rw (same-part r s w (field 1 2 Text) (kind-clear r), w .same-length)
+  same-refusal = rw (same-part r (field 1 2 Text) (kind-clear r), record-length r)
 
-  pub same-field : fieldOf r n ≡ fieldOf s n
+  pub same-field : fieldOf (maskedRecord r) n ≡ fieldOf r n
   same-field = by (refusalOf r n) refl
     where
-      by : (answer : FieldAnswer) → refusalOf r n ≡ answer → fieldOf r n ≡ fieldOf s n
+      by : (answer : FieldAnswer) → refusalOf r n ≡ answer → fieldOf (maskedRecord r) n ≡ fieldOf r n
       by Offered e =
           let clear = ap (λ part. clear-of part (numbered n)) (sale-card r n e) ∙ keeps-clear n (is-offered r n e) in
-          is-field r n e ∙ same-part r s w (numbered n) clear ∙ sym (is-field s n (sym same-refusal ∙ e))
-      by (Refused x) e = is-empty r n x e ∙ sym (is-empty s n x (sym same-refusal ∙ e))
+          is-field (maskedRecord r) n (same-refusal ∙ e) ∙ same-part r (numbered n) clear ∙ sym (is-field r n e)
+      by (Refused x) e = is-empty (maskedRecord r) n x (same-refusal ∙ e) ∙ sym (is-empty r n x e)

@@ -1,0 +1,56 @@
+-- TOLD ALIKE: records, and files, of which every question tells the same, a field for each question. Which records and which files is a parameter: those
+-- that differ only in hidden digits (HiddenDigits), and a file and its masked form (MaskTwice).
+use Prim.Native.Nat.{ℕ}
+use mathlib.Core.Path.{_≡_}
+use mathlib.Core.List.{List, [], _∷_, _++_}
+use lib.ListN.{take}
+use Rattle.chunks.specs.Chunks.{joinedChunks}
+use Rattle.card_record.specs.Reading.{readingOf}
+use Rattle.card_run.specs.declared.running.Running.{Running}
+use Rattle.card_run.specs.declared.answer.CardAnswer.{CardAnswer}
+use Rattle.card_run.specs.Running.{openOf, closedOf}
+use Rattle.card_run.specs.Answer.{cardFileRow}
+use Rattle.card_file.specs.CardFile.{checkOf}
+use Rattle.card_file.specs.Feeding.{fedAll}
+use Rattle.card_mask.specs.Mask.{Masks}
+use Rattle.card_sheet.specs.SheetOf.{SheetOf}
+use Rattle.sale_field.specs.Field.{refusalOf, fieldOf, fieldRow}
+use Rattle.demands.specs.Feeding.{Call, feed, close, called}
+use Rattle.demands.specs.InChunks.{cardInChunks, copiedInChunks}
+
+-- for feeding: equally many records, each the other's
+pub data AlikeLists (Alike : List ℕ → List ℕ → Type 0) : List (List ℕ) → List (List ℕ) → Type 0 where
+  none : AlikeLists Alike [] []
+  one-more : {r s : List ℕ} {rs ss : List (List ℕ)} → Alike r s → AlikeLists Alike rs ss → AlikeLists Alike (r ∷ rs) (s ∷ ss)
+
+-- and equally many calls of every kind, in the same order
+pub data AlikeCalls (Alike : List ℕ → List ℕ → Type 0) : List Call → List Call → Type 0 where
+  no-call : AlikeCalls Alike [] []
+  feeds : {r s : List ℕ} {cs ds : List Call} → Alike r s → AlikeCalls Alike cs ds → AlikeCalls Alike (feed r ∷ cs) (feed s ∷ ds)
+  closes : {cs ds : List Call} → AlikeCalls Alike cs ds → AlikeCalls Alike (close ∷ cs) (close ∷ ds)
+
+pub record ToldAlike (AlikeRecords AlikeFiles : List ℕ → List ℕ → Type 0) : Type 0 where
+  -- what a record is read as
+  pub reading : (edition : ℕ) (r s : List ℕ) → AlikeRecords r s → readingOf edition r ≡ readingOf edition s
+  -- the state, and so the answer, after every number of records fed, and after the close
+  pub fed : (edition : ℕ) (rs ss : List (List ℕ)) → AlikeLists AlikeRecords rs ss → (k : ℕ) →
+      fedAll (openOf edition) (take k rs) ≡ fedAll (openOf edition) (take k ss)
+  pub closed : (edition : ℕ) (rs ss : List (List ℕ)) → AlikeLists AlikeRecords rs ss →
+      closedOf (fedAll (openOf edition) rs) ≡ closedOf (fedAll (openOf edition) ss)
+  -- and after all calls of every kind, from every state
+  pub after-calls : (st : Running) (cs ds : List Call) → AlikeCalls AlikeRecords cs ds → called st cs ≡ called st ds
+  -- the verdict, the refusal, the counts and the totals of a file read whole
+  pub whole : (edition : ℕ) (s t : List ℕ) → AlikeFiles s t → cardFileRow (checkOf edition s) ≡ cardFileRow (checkOf edition t)
+  -- the answer of masking, and every byte of the output
+  pub masks : (edition : ℕ) (s t out : List ℕ) → AlikeFiles s t → (answer-s answer-t : CardAnswer) (after-s after-t : List ℕ) →
+      Masks edition s out answer-s after-s → Masks edition t out answer-t after-t → (cardFileRow answer-s ≡ cardFileRow answer-t) × (after-s ≡ after-t)
+  -- the answer of a file in chunks, however the two are cut, and the bytes that masking it has written
+  pub in-chunks : (edition : ℕ) (cs ds : List (List ℕ)) → AlikeFiles (joinedChunks cs) (joinedChunks ds) →
+      cardFileRow (cardInChunks edition cs) ≡ cardFileRow (cardInChunks edition ds)
+  pub copied : (cs ds : List (List ℕ)) → AlikeFiles (joinedChunks cs) (joinedChunks ds) →
+      copiedInChunks cs .written ++ copiedInChunks cs .waiting ≡ copiedInChunks ds .written ++ copiedInChunks ds .waiting
+  -- the answer of a file's day sheet, and every byte of the output
+  pub sheets : (edition : ℕ) (s t out : List ℕ) → AlikeFiles s t → (answer-s answer-t : CardAnswer) (after-s after-t : List ℕ) →
+      SheetOf edition s out answer-s after-s → SheetOf edition t out answer-t after-t → (cardFileRow answer-s ≡ cardFileRow answer-t) × (after-s ≡ after-t)
+  -- the refusal of the field question, and the part that it hands back
+  pub field : (r s : List ℕ) → AlikeRecords r s → (number : ℕ) → (fieldRow (refusalOf r number) ≡ fieldRow (refusalOf s number)) × (fieldOf r number ≡ fieldOf s number)
