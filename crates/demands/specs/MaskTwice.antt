@@ -26,7 +26,7 @@ SameHiddenIn s t = (i : ℕ) → hiddenIn s i ≡ hiddenIn t i
 
 pub record MaskTwice : Type 0 where
   -- "the masked copy of an accepted file is accepted under the same edition with the same counts, totals and day sheet": the masked form of every file gets the
-  -- file's own answer, refusal and all, from every question
+  -- file's own answer, refusal and all, from each question of that list
   pub as-the-file : ToldAlike RecordAndMasked FileAndMasked
   -- "masking it again gives the same bytes"
   pub same-bytes : (file : List ℕ) → maskedFile (maskedFile file) ≡ maskedFile file

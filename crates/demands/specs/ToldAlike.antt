@@ -1,5 +1,5 @@
--- TOLD ALIKE: records, and files, of which every question tells the same, a field for each question. Which records and which files is a parameter: those
--- that differ only in hidden digits (HiddenDigits), and a file and its masked form (MaskTwice).
+-- TOLD ALIKE: records, and files, of which these questions tell the same, a field for each. Which records and which files is a parameter: those that differ
+-- only in hidden digits (HiddenDigits), and a file and its masked form (MaskTwice). Not in the list: the answer in chunks before the end, and `mask_lines`.
 use Prim.Native.Nat.{ℕ}
 use mathlib.Core.Path.{_≡_}
 use mathlib.Core.List.{List, [], _∷_, _++_}
