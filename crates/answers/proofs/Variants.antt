@@ -1,17 +1,18 @@
 -- The variants of the demands do not hold: each is refuted on a file or a state, by computation.
 use Prim.Native.Nat.{ℕ, suc}
 use mathlib.Core.Path.{_≡_, refl, sym, _∙_}
-use mathlib.Core.List.{[], _∷_, _++_}
-use mathlib.Core.Bool.{false≢true}
+use mathlib.Core.List.{List, [], _∷_, _++_, map}
+use mathlib.Core.Bool.{true, _&&_, false≢true}
 use native.Mathlib.Omega.{arith}
 use lib.ListN.{length, getD, take, drop, replicate}
-use lib.Dec.{lit<}
+use lib.Dec.{lit<, lit≤}
 use Rattle.refusal.specs.declared.Cause.the-variants.{EditionRetired, SequenceWrong}
 use Rattle.refusal.specs.Nowhere.{nowhere}
-use Rattle.refusal.specs.Rules.{firstBroken}
-use Rattle.text.specs.Alphabet.{allowed, holdsOnly, firstStray}
+use Rattle.refusal.specs.Rules.{firstBroken, allHold}
+use Rattle.text.specs.Alphabet.{digit, allowed, holdsOnly, firstStray}
 use Rattle.text.specs.Number.{valueFrom}
 use Rattle.text.specs.Literal.{ascii, sameBytes, hasByte, oneByteOf}
+use Rattle.text.specs.Weighed.{weighed, zerosWeighed}
 use Rattle.calendar.specs.Month.{daysIn}
 use Rattle.calendar.specs.Day.{isDay}
 use Rattle.calendar.specs.Time.{isTime}
@@ -20,15 +21,18 @@ use Rattle.pan.specs.CardField.{wellFormed, leadingZeros}
 use Rattle.pan.specs.HiddenPlaces.{hiddenPlaces}
 use Rattle.pan.specs.Masked.{starWhere}
 use Rattle.pan.proofs.Stars.{equal-stars}
-use Rattle.lines.specs.Lines.{inFront, cut, joined, endsInCr, withoutLast, rejoined}
+use Rattle.lines.specs.Lines.{inFront, cut, noLf, allNoLf, joined, withCr, endsInCr, withoutLast, rejoined}
+use Rattle.first_fault.specs.InTurn.{piecesHold, ComesBehind}
 use Rattle.card_content.specs.Content.{inSet, dayOrZerosRules, cardOrBlanksRules, contentRules}
 use Rattle.card_content.specs.Field.{tableRules, recordRules}
 use Rattle.card_sale.specs.Cv.{joinedRules}
 use Rattle.card_adjustment.specs.Aj.{joinedRules as adjustmentRules}
 use Rattle.card_record.specs.CardPart.{cardPartFound}
+use Rattle.card_record.specs.declared.kind.Kind.the-variants.{A0}
 use Rattle.card_record.specs.Kind.{kindNamed}
 use Rattle.card_record.specs.Reading.{rightReading, judgedAs, readFound}
-use Rattle.card_run.specs.Answer.{answerAt, cardFileRow}
+use Rattle.card_quick.specs.Quick.{noneAbove, least, greatest, inPicture, setsRight, daysRight, surelyRight}
+use Rattle.card_run.specs.Answer.{answerAt, answerOf, cardFileRow}
 use Rattle.card_run.specs.Running.{closedAt, lateAt}
 use Rattle.card_step.specs.Rules.{joinedAt, rulesOf}
 use Rattle.card_step.specs.Behind.{behind}
@@ -38,12 +42,19 @@ use Rattle.card_run.specs.declared.stage.Stage.the-variants.{InBatch, Refused}
 use Rattle.card_run.specs.Running.{openOf}
 use Rattle.card_file.specs.Feeding.{fedAll}
 use Rattle.card_file.specs.Room.{answerWithRoom}
+use Rattle.card_kept.specs.FirstFault.{rulesBehind}
+use Rattle.card_kept.specs.Kept.{sumOver, picked}
+use Rattle.card_kept.specs.State.{howMany, transactionsIn}
 use Rattle.card_mask.specs.Masked.{maskedAt, maskedFile}
 use Rattle.card_mask.specs.Mask.{maskedInto}
 use Rattle.card_sheet.specs.SheetOf.{sheetInto}
 use Rattle.chunks.specs.Unfinished.{clippedWith}
 use Rattle.chunks.specs.Chunks.{heldBefore, joinedChunks}
 use Rattle.card_stream.specs.Stream.{openOf as streamOpen, behindEnd, withHeld}
+use Rattle.files.specs.declared.reading.Got.the-variants.{End, Failed}
+use Rattle.wording.specs.Number.{digitsWithin}
+use Rattle.wording.specs.Line.{wordOf, refusedLine}
+use Rattle.card_program.specs.Outcome.{outcomeAt}
 use Rattle.payroll_record.specs.Field.{numberRules}
 use Rattle.payroll_record.specs.Front.{strayAt}
 use Rattle.payroll_record.specs.Kind.{segmentNamed, kindNamed as payrollKindNamed}
@@ -59,6 +70,9 @@ use Rattle.payroll_file.specs.PayrollFile.{
   endAt,
 }
 use Rattle.payroll_file.specs.Answer.{payrollRow, stateRow}
+use Rattle.payroll_kept.specs.FirstFault.{isOneOf}
+use Rattle.payroll_kept.specs.FirstFaultOfFile.{rulesBehind as payrollRulesBehind}
+use Rattle.payroll_kept.specs.State.{those, amountsOf}
 use Rattle.payroll_run.specs.declared.stage.Stage.the-variants.{Refused as payrollRefused}
 use Rattle.payroll_run.specs.State.{opened, moved}
 use Rattle.day_sheet.specs.Number.{inBase, valueIn}
@@ -73,12 +87,13 @@ use Rattle.day_sheet.specs.Answer.{readRow}
 use Rattle.demands.specs.Demands.{Demands}
 use Rattle.demands.specs.Examples.{asWritten, allAsWritten}
 use Rattle.demands.specs.Feeding.{called}
-use Rattle.demands.specs.HiddenDigits.{hiddenAt, hiddenInPieces, hiddenIn}
-use Rattle.demands.specs.HiddenDigitsExample.{oneCredit}
+use Rattle.demands.specs.HiddenDigits.{hiddenAt, hiddenInRecord, hiddenInPieces, hiddenIn}
+use Rattle.demands.specs.HiddenDigitsExample.{oneFile, otherFile, oneCredit}
+use Rattle.demands.proofs.TwinLaws.{twins-changed}
 use Rattle.answers.specs.CardRun.{state, refusal, oneSale}
 use Rattle.answers.specs.DaySheet.{sheetOf, bothSets}
-use Rattle.demands.specs.ExampleFile.{a0, fileOf}
-use Rattle.answers.specs.Samples.{at, sale, cardFile, fileHeader, batchHeader, payment, batchTrailer, fileTrailer, payrollFile}
+use Rattle.demands.specs.ExampleFile.{a0, l9, fileOf}
+use Rattle.answers.specs.Samples.{at, sale, cardFile, twoBatches, fileHeader, batchHeader, payment, batchTrailer, fileTrailer, payrollFile, twoPayrollBatches}
 use Rattle.answers.specs.Variants.{Variants}
 use Rattle.answers.proofs.Observed.{sheetWritten}
 use Rattle.answers.proofs.Told.{told, bit}
@@ -87,9 +102,19 @@ use Rattle.answers.proofs.Told.{told, bit}
 not-first : (n : ℕ) → 0 ≡ suc n → ⊥
 not-first n e = omega arith
 
+-- the example's L9 comes behind three pieces,
+abbrev before-l9 : List (List ℕ)
+before-l9 = take 3 (cut cardFile .pieces)
+
+-- and the trailer of a payroll file behind four
+abbrev before-trailer : List (List ℕ)
+before-trailer = take 4 (cut payrollFile .pieces)
+
 pub variants : (d : Demands) → Variants d
-unfolding firstBroken allowed holdsOnly valueFrom sameBytes hasByte oneByteOf daysIn isDay isTime whenRules wellFormed leadingZeros hiddenPlaces starWhere inFront cut joined endsInCr withoutLast rejoined inSet dayOrZerosRules cardOrBlanksRules contentRules tableRules recordRules joinedRules adjustmentRules cardPartFound kindNamed rightReading judgedAs readFound answerAt cardFileRow joinedAt rulesOf behind behindOrRefused tookAt closedAt unendedAt linesOf endOf lateAt fedAll answerWithRoom maskedAt maskedInto sheetInto clippedWith heldBefore joinedChunks behindEnd withHeld firstStray numberRules strayAt segmentNamed payrollKindNamed readAs payrollReadFound foundRules dueRules payrollRunRules behindDetailAs payrollBehind payrollBehindOrRefused payrollTookAt payrollUnendedAt payrollLinesOf endedOf cutShortOf endAt payrollRow stateRow inBase valueIn inPlaces fromPlaces digitsRight sheetRow bytesOf withinLimits setAllowed setsAllowed headingAllowed noneOf splitAllowed sheetAllowed sheetAs readOf putAnswer putResult writeAnswer writeResult converted convertAnswer convertResult readRow asWritten allAsWritten called hiddenAt hiddenInPieces
+unfolding firstBroken allHold piecesHold howMany transactionsIn picked sumOver noLf allNoLf weighed zerosWeighed noneAbove least greatest inPicture setsRight daysRight surelyRight those amountsOf isOneOf allowed holdsOnly valueFrom sameBytes hasByte oneByteOf daysIn isDay isTime whenRules wellFormed leadingZeros hiddenPlaces starWhere inFront cut joined endsInCr withoutLast rejoined inSet dayOrZerosRules cardOrBlanksRules contentRules tableRules recordRules joinedRules adjustmentRules cardPartFound kindNamed rightReading judgedAs readFound answerAt cardFileRow joinedAt rulesOf behind behindOrRefused tookAt closedAt unendedAt linesOf endOf lateAt fedAll answerWithRoom maskedAt maskedInto sheetInto clippedWith heldBefore joinedChunks behindEnd withHeld digitsWithin wordOf refusedLine outcomeAt firstStray numberRules strayAt segmentNamed payrollKindNamed readAs payrollReadFound foundRules dueRules payrollRunRules behindDetailAs payrollBehind payrollBehindOrRefused payrollTookAt payrollUnendedAt payrollLinesOf endedOf cutShortOf endAt payrollRow stateRow inBase valueIn inPlaces fromPlaces digitsRight sheetRow bytesOf withinLimits setAllowed setsAllowed headingAllowed noneOf splitAllowed sheetAllowed sheetAs readOf putAnswer putResult writeAnswer writeResult converted convertAnswer convertResult readRow asWritten allAsWritten called hiddenAt hiddenInPieces
 variants d =
+    let l9-comes : ComesBehind (rulesBehind 2) cardFile before-l9 (withCr l9) = record { later = drop 4 (cut cardFile .pieces); split = refl; all-hold = refl } in
+    let trailer-comes : ComesBehind payrollRulesBehind payrollFile before-trailer (withCr fileTrailer) = record { later = []; split = refl; all-hold = refl } in
     record {
       record-judged = λ wrong.
           let x = refusal SequenceWrong 3 194 in
@@ -98,12 +123,32 @@ variants d =
       edition-retired = λ wrong. told (λ row. row .refusal .number) refl (wrong 3 refl .whole []);
       retired-when-fed = λ wrong. told (λ row. row .refusal .number) refl (wrong 1 refl a0);
       file-judged = λ wrong. not-first _ (wrong 1 refl [] .is-refused (nowhere EditionRetired) .0 refl .number);
+      state-known = λ wrong. told (λ st. cardFileRow (answerOf st) .refusal .number) refl (wrong 2 refl ([] ∷ []) refl .is);
+      since-header = λ wrong.
+          told (λ b. b .transactions) refl (wrong 2 refl (cut twoBatches .pieces) refl (d .file-judged 2 refl twoBatches .is-accepted .0 refl .pieces-hold));
+      million-pieces = λ wrong. told (λ row. bit (row .accepted)) refl (wrong 2 refl cardFile (lit≤ tt) .1);
+      millionth-record = λ wrong.
+          told (λ n. n) refl
+          (wrong 2 cardFile [] (withCr a0) refl (record { later = drop 1 (cut cardFile .pieces); split = refl; all-hold = refl }) A0 refl refl);
+      too-large = λ wrong. told (λ row. bit (row .accepted)) refl (wrong 2 cardFile before-l9 (lit≤ tt) .by-eleven (withCr l9) refl l9-comes refl refl);
+      of-sales = λ wrong. told (λ row. bit (row .accepted)) refl (wrong 2 cardFile before-l9 refl (refl, tt) .by-eleven (withCr l9) refl l9-comes refl refl);
+      below-zero = λ wrong. told (λ row. bit (row .accepted)) refl (wrong 2 cardFile before-l9 (lit≤ tt) .by-eleven (withCr l9) refl l9-comes refl refl);
       payroll-record-judged = λ wrong.
           let x = refusal SequenceWrong 3 4 in
           told (λ n. n) refl (wrong (moved (payrollRefused x) 5 1 1 10000 (opened .batch) opened) payment .is-refused x .0 refl .number);
       payroll-file-judged = λ wrong.
           let file = joined (fileHeader ∷ batchHeader ∷ payment ∷ batchTrailer ∷ fileTrailer ∷ []) in
           false≢true (wrong file .1 (d .payroll-file-judged payrollFile .is-accepted .0 refl .pieces-hold));
+      payroll-state-known = λ wrong. told (λ st. stateRow (st .stage) .refusal .number) refl (wrong ([] ∷ []) .is);
+      payroll-amount = λ wrong.
+          told (λ n. n) refl (wrong (cut twoPayrollBatches .pieces) (d .payroll-file-judged twoPayrollBatches .is-accepted .0 refl .pieces-hold));
+      payroll-sum = λ wrong.
+          told (λ row. bit (row .accepted)) refl
+          (wrong payrollFile (take 3 (cut payrollFile .pieces)) (lit≤ tt) .in-any-case (withCr batchTrailer)
+          (record { later = drop 4 (cut payrollFile .pieces); split = refl; all-hold = refl }) refl .1);
+      payroll-total = λ wrong. told (λ row. bit (row .accepted)) refl (wrong payrollFile before-trailer (lit≤ tt) .in-any-case (withCr fileTrailer) trailer-comes refl .1);
+      payroll-records = λ wrong. told (λ row. bit (row .accepted)) refl (wrong payrollFile before-trailer (lit≤ tt) .in-any-case (withCr fileTrailer) trailer-comes refl .1);
+      payroll-top = λ wrong. told (λ n. n) refl (wrong 18_446_744_073_709_551_616);
       refused-leaves-alone = λ wrong.
           told (λ s. getD s 0 0) refl (wrong 2 cardFile (replicate (length cardFile) 0) _ _ (record { answers = refl; leaves = refl }));
       card-rules-kept = λ wrong. false≢true (wrong 3 cardFile .1 (d .card-rules-kept .exactly 2 cardFile .0 refl));
@@ -129,6 +174,32 @@ variants d =
       in-chunks = λ wrong. told (λ row. row .refusal .number) refl (wrong 2 []);
       after-the-end = λ wrong. told (λ row. row .refusal .number) refl (wrong (streamOpen 2) 65 []);
       hidden-digits-reach-nothing = λ wrong. told (λ row. bit (row .accepted)) refl (wrong 2 cardFile (fileOf (at 77 "00000009751" sale)) refl);
+      masks-lines = λ wrong.
+          told (λ n. n) refl (wrong (ascii "\n") (ascii "A") refl _ _ _ _ (record { counts = refl; leaves = refl }) (record { counts = refl; leaves = refl }));
+      so-far = λ wrong.
+          told (λ row. row .refusal .number) refl
+          (wrong 2 [] (ascii "A\n" ∷ []) (ascii "A\n") [] (record { same-length = refl; same-byte = λ i k f. refl }));
+      waits-so-far = λ wrong.
+          told (λ s. getD s 96 0) refl
+          (wrong (take 196 oneFile ∷ []) (take 196 otherFile ∷ [])
+          (record { more-of-one = drop 196 oneFile; more-of-other = drop 196 otherFile; files = d .twins-that-differ .twins; equally-much = refl }));
+      taken-so-far = λ wrong.
+          told (λ s. getD s 8 0) refl (wrong 2 [] (ascii "A\n" ∷ []) (ascii "A\n") [] (record { same-length = refl; same-byte = λ i k f. refl }));
+      printed = λ wrong.
+          told (λ s. getD s 0 0) refl
+          (wrong 2 [] []
+          (record { more-of-one = []; more-of-other = []; files = record { same-length = refl; same-byte = λ i k f. refl }; equally-much = refl }) End (Failed 0));
+      record-twins-made = λ wrong.
+          let other = at 97 "A" sale in
+          let agree = equal-stars (λ i. hiddenInRecord sale i && digit (getD sale i 0)) sale other .0 refl in
+          told (λ n. n) refl (wrong sale other agree .same-byte 96 (lit< tt) refl);
+      file-twins-made = λ wrong.
+          let other = fileOf (at 88 "0001234567890123457" sale) in
+          let twins = equal-stars (λ i. digit (getD cardFile i 0) && digit (getD other i 0)) cardFile other .0 refl in
+          told (λ n. n) refl (wrong cardFile other (twins-changed (λ i. true) (λ i. true) twins) .same-byte 202 (lit< tt) refl);
+      same-way = λ wrong. told bit refl (wrong 2 sale (at 3 "É" sale) refl);
+      same-ways = λ wrong. told (λ ways. getD (map bit ways) 2 0) refl (wrong 2 cardFile (fileOf (at 3 "É" sale)) refl);
+      same-sizes = λ wrong. told length refl (wrong (ascii "\n") (ascii "A") refl);
       masked-where-hidden = λ wrong. told (λ n. n) refl (sym (d .masked-where-hidden cardFile .at-each 192 (lit< tt)) ∙ wrong cardFile 192);
       as-the-file = λ wrong. told (λ row. row .refusal .number) refl (wrong 2 cardFile 0);
       sheet-of-copy = λ wrong.

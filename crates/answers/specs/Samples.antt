@@ -5,7 +5,7 @@ use mathlib.Core.List.{List, [], _∷_, _++_}
 use lib.ListN.{length, take, drop, replicate}
 use Rattle.text.specs.Literal.{ascii}
 use Rattle.lines.specs.Lines.{joined}
-use Rattle.demands.specs.ExampleFile.{a0, l0, saleWith, adjustment, fileOf}
+use Rattle.demands.specs.ExampleFile.{a0, l0, saleWith, adjustment, l9, fileOf}
 
 -- a record with another text at a position, which counts from 1; a letter with an accent is the byte of its code, as in Latin-1
 abbrev pub at : ℕ → String → List ℕ → List ℕ
@@ -27,6 +27,10 @@ debit = adjustment "2" "0001234567890123456" "000003"
 abbrev pub adjustedFile : List ℕ
 adjustedFile =
     joined (a0 ∷ l0 ∷ sale ∷ adjustment "1" "0001234567890123456" "000004" ∷ ascii "L900000200000000010975000005" ∷ ascii "A9000006000006" ∷ [])
+
+-- the example with a second batch, of no transaction
+abbrev pub twoBatches : List ℕ
+twoBatches = joined (a0 ∷ l0 ∷ sale ∷ l9 ∷ at 13 "000005" l0 ∷ ascii "L900000000000000000000000006" ∷ ascii "A9000007000007" ∷ [])
 
 -- a card of blanks
 abbrev pub blankCard : String
@@ -67,3 +71,11 @@ payrollFileOf detail = payrollFileWith fileHeader detail batchTrailer
 
 abbrev pub payrollFile : List ℕ
 payrollFile = payrollFileOf payment
+
+-- with a second batch, of no payment
+abbrev pub twoPayrollBatches : List ℕ
+twoPayrollBatches =
+    joined
+    (fileHeader ∷ batchHeader ∷ payment ∷ batchTrailer ∷ padded "42200021" ∷ at 18 "000002000000000000000000" (padded "42200025") ∷
+    at 18 "000002000007" (padded "42299999") ∷ []) ++
+    (26 ∷ [])

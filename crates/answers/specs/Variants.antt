@@ -1,43 +1,58 @@
 -- What the demands are held to: of each a variant with a hypothesis dropped or a definition changed, which does not hold. Each names the field that it
 -- is a variant of.
-use Prim.Native.Nat.{ℕ, _+_}
+use Prim.Native.Nat.{ℕ, _+_, _^_, _≤_}
 use mathlib.Core.Path.{_≡_}
 use mathlib.Core.Logic.{_↔_}
 use mathlib.Core.List.{List, [], _∷_, _++_, map}
-use mathlib.Core.Bool.{true, false, cond}
+use mathlib.Core.Bool.{true, false, cond, _&&_}
 use lib.ListN.{length, getD, take, drop, replicate}
 use lib.Dec.{eqb}
 use Rattle.refusal.specs.declared.Cause.the-variants.{EditionUnknown, EditionRetired}
 use Rattle.refusal.specs.declared.Refusal.{Refusal}
 use Rattle.refusal.specs.Nowhere.{nowhere}
 use Rattle.refusal.specs.Row.{noRefusal}
+use Rattle.refusal.specs.Rules.{allHold}
+use Rattle.text.specs.Alphabet.{digit}
 use Rattle.pan.specs.AgreeOutside.{AgreeOutside}
 use Rattle.pan.specs.Masked.{starWhere}
-use Rattle.lines.specs.Lines.{cut}
+use Rattle.lines.specs.Lines.{allNoLf, cut, withoutLast}
 use Rattle.chunks.specs.Chunks.{joinedChunks}
+use Rattle.first_fault.specs.InTurn.{recordsIn, piecesHold, ComesBehind}
 use Rattle.edition.specs.Known.{current, retired, known}
+use Rattle.card_record.specs.declared.kind.Kind.{Kind}
+use Rattle.card_record.specs.declared.kind.KindFound.the-variants.{Known}
+use Rattle.card_record.specs.Kind.{kindOf}
+use Rattle.card_record.specs.Reading.{readingOf}
+use Rattle.card_quick.specs.Quick.{passesQuick}
 use Rattle.card_run.specs.declared.running.Running.{Running}
 use Rattle.card_run.specs.declared.answer.CardAnswer.{CardAnswer}
 use Rattle.card_run.specs.Running.{openOf}
 use Rattle.card_run.specs.Answer.{answerOf, goingOnRow, refusedRow, cardFileRow}
 use Rattle.card_file.specs.Feeding.{fedOf}
 use Rattle.card_file.specs.CardFile.{checkOf}
-use Rattle.card_kept.specs.FirstFault.{FirstFaultOfRecord, FirstFaultDecides}
-use Rattle.card_kept.specs.Kept.{Kept, salesOf}
+use Rattle.card_kept.specs.FirstFault.{FirstFaultOfRecord, rulesBehind, FirstFaultDecides}
+use Rattle.card_kept.specs.Kept.{Kept, added, taken, salesOf}
+use Rattle.card_kept.specs.Limits.{beforeJoined, inBatch, NoSumIsRight, SalesOf}
 use Rattle.card_kept.specs.Numbers.{TotalsOf}
+use Rattle.card_kept.specs.State.{transactionsIn, plainBatch, plainState, stateBehind, StateKnown}
 use Rattle.card_sheet.specs.SheetOf.{sheetFrom, SheetOf}
 use Rattle.card_sheet.specs.PlainSheet.{plainSheet1}
 use Rattle.card_mask.specs.Mask.{Masks}
-use Rattle.card_mask.specs.Masked.{maskedFile}
+use Rattle.card_mask.specs.Masked.{maskedFile, MasksLines}
 use Rattle.card_stream.specs.declared.Stream.{Stream}
 use Rattle.card_stream.specs.Stream as stream
+use Rattle.files.specs.declared.reading.Got.{Got}
+use Rattle.card_program.specs.Outcome.{outcomeAt}
+use Rattle.card_program.specs.Verdict.{verdictText, outcomeText}
+use Rattle.payroll_record.specs.declared.kind.Kind.the-variants.{BatchTrailer, FileTrailer}
 use Rattle.payroll_run.specs.declared.running.Running.{Running as PayrollRunning}
-use Rattle.payroll_run.specs.State.{opened}
 use Rattle.payroll_file.specs.Answer.{payrollRow}
 use Rattle.payroll_file.specs.PayrollFile.{checkOf as payrollCheckOf}
 use Rattle.payroll_kept.specs.FirstFault as payroll-record
 use Rattle.payroll_kept.specs.FirstFaultOfFile as payroll-file
 use Rattle.payroll_kept.specs.Kept as payroll
+use Rattle.payroll_kept.specs.Limits as payroll-limits
+use Rattle.payroll_kept.specs.State as payroll-state
 use Rattle.sheet_numbers.specs.declared.sheet.Sheet.{Sheet}
 use Rattle.day_sheet.specs.declared.reader.SheetRead.the-variants.{Read}
 use Rattle.day_sheet.specs.declared.writer.SheetWritten.{SheetWritten}
@@ -53,10 +68,13 @@ use Rattle.demands.specs.Demands.{Demands}
 use Rattle.demands.specs.Editions.{RefusedOutright}
 use Rattle.demands.specs.Examples.{agrees, allAsWritten}
 use Rattle.demands.specs.Feeding.{FedAsWhole, RefusedForGood, AfterAcceptedClose, OnePastTheLast, afterTheEnd}
-use Rattle.demands.specs.HiddenDigits.{hiddenIn, TwinFiles}
+use Rattle.demands.specs.HiddenDigits.{hiddenInRecord, hiddenIn, TwinRecords, TwinFiles}
 use Rattle.demands.specs.HiddenDigitsExample.{oneFile, otherFile, oneCredit, otherCredit}
-use Rattle.demands.specs.InChunks.{cardTaken, cardInChunks}
+use Rattle.demands.specs.InChunks.{cardTaken, cardInChunks, copiedInChunks}
 use Rattle.demands.specs.MaskTwice.{FileAndMasked}
+use Rattle.demands.specs.SameWay.{waysOf, sizesOf}
+use Rattle.demands.specs.ToldAlike.{ComeAlike}
+use Rattle.demands.specs.TwinsMade.{DigitsChanged}
 
 -- a demand, and a variant of it that does not hold
 abbrev pub NotSo : {Right : Type 0} → Right → Type 0 → Type 0
@@ -73,11 +91,47 @@ pub record Variants (d : Demands) : Type 0 where
       ((edition : ℕ) → retired edition ≡ true → (r : List ℕ) → cardFileRow (answerOf (fedOf (openOf edition) r)) ≡ goingOnRow)
   -- under an edition that is retired too
   pub file-judged : NotSo (d .file-judged) ((edition : ℕ) → known edition ≡ true → (file : List ℕ) → FirstFaultDecides edition file)
+  -- of pieces that break a rule too; and all transactions of the file taken for those since the last L0
+  pub state-known : NotSo (d .state-known)
+      ((edition : ℕ) → current edition ≡ true → (pieces : List (List ℕ)) → allNoLf pieces ≡ true → StateKnown edition pieces)
+  pub since-header : NotSo (d .state-known)
+      ((edition : ℕ) → current edition ≡ true → (pieces : List (List ℕ)) → allNoLf pieces ≡ true → piecesHold (rulesBehind edition) [] pieces ≡ true →
+      stateBehind edition pieces .batch ≡ plainBatch (transactionsIn (recordsIn pieces)))
+  -- a file of five pieces; every record, whatever its number
+  pub million-pieces : NotSo (d .millionth-record .is-refused)
+      ((edition : ℕ) → current edition ≡ true → (file : List ℕ) → 5 ≤ length (cut file .pieces) →
+      (refusal : Refusal) × (cardFileRow (checkOf edition file) ≡ refusedRow refusal) × (refusal .«record» ≤ 5))
+  pub millionth-record : NotSo (d .millionth-record .by-nine)
+      ((edition : ℕ) (file : List ℕ) (earlier : List (List ℕ)) (p : List ℕ) → current edition ≡ true → ComesBehind (rulesBehind edition) file earlier p → (kind : Kind) → kindOf (withoutLast p) ≡ Known kind →
+      allHold (beforeJoined (plainState edition (recordsIn earlier)) kind p) ≡ true → cardFileRow (checkOf edition file) .refusal .number ≡ 9)
+  -- too large for four digits; of one sale
+  pub too-large : NotSo (d .sum-of-no-trailer .too-large)
+      ((edition : ℕ) (file : List ℕ) (earlier : List (List ℕ)) → 10 ^ 4 + taken (inBatch earlier) ≤ added (inBatch earlier) → NoSumIsRight edition file earlier)
+  pub of-sales : NotSo (d .sum-of-no-trailer .of-sales)
+      ((edition : ℕ) (file : List ℕ) (earlier : List (List ℕ)) → length (inBatch earlier) ≡ 1 → SalesOf 10_000 (inBatch earlier) → NoSumIsRight edition file earlier)
+  -- that a sum which is not below zero is none
+  pub below-zero : NotSo (d .sum-of-no-trailer .below-zero)
+      ((edition : ℕ) (file : List ℕ) (earlier : List (List ℕ)) → taken (inBatch earlier) ≤ added (inBatch earlier) → NoSumIsRight edition file earlier)
   -- of a state that is refused too
   pub payroll-record-judged : NotSo (d .payroll-record-judged) ((st : PayrollRunning) (r : List ℕ) → payroll-record.FirstFaultOfRecord st r)
   -- what stands behind the last LF not looked at
   pub payroll-file-judged : NotSo (d .payroll-file-judged)
-      ((file : List ℕ) → (payrollRow (payrollCheckOf file) .accepted ≡ true) ↔ (payroll-file.piecesHold opened (cut file .pieces) ≡ true))
+      ((file : List ℕ) → (payrollRow (payrollCheckOf file) .accepted ≡ true) ↔ (piecesHold payroll-file.rulesBehind [] (cut file .pieces) ≡ true))
+  -- of pieces that break a rule too; and the amount of the last batch taken for the file's
+  pub payroll-state-known : NotSo (d .payroll-state-known) ((pieces : List (List ℕ)) → payroll-state.StateKnown pieces)
+  pub payroll-amount : NotSo (d .payroll-state-known)
+      ((pieces : List (List ℕ)) → piecesHold payroll-file.rulesBehind [] pieces ≡ true →
+      payroll-state.stateBehind pieces .amount ≡ payroll-state.amountIn (payroll-state.fromHeader (recordsIn pieces)))
+  -- too large for four digits, of a sum and of an amount; a fifth record; and never cut at the top
+  pub payroll-sum : NotSo (d .payroll-too-large)
+      ((file : List ℕ) (earlier : List (List ℕ)) → 10 ^ 4 ≤ payroll-state.amountIn (payroll-state.fromHeader (recordsIn earlier)) →
+      payroll-limits.RefusedAt 24 BatchTrailer payroll-limits.beforeSum file earlier)
+  pub payroll-total : NotSo (d .payroll-too-large)
+      ((file : List ℕ) (earlier : List (List ℕ)) → 10 ^ 4 ≤ payroll-state.amountIn (recordsIn earlier) →
+      payroll-limits.RefusedAt 0 FileTrailer payroll-limits.beforeAmount file earlier)
+  pub payroll-records : NotSo (d .payroll-too-large)
+      ((file : List ℕ) (earlier : List (List ℕ)) → 4 ≤ length earlier → payroll-limits.RefusedAt 24 FileTrailer payroll-limits.beforeRecords file earlier)
+  pub payroll-top : NotSo (d .payroll-top) ((n : ℕ) → payroll-state.stayed n ≡ n)
   -- of an accepted file too
   pub refused-leaves-alone : NotSo (d .refused-leaves-alone)
       ((edition : ℕ) (file out : List ℕ) (answer : CardAnswer) (after : List ℕ) → Masks edition file out answer after → after ≡ out)
@@ -128,6 +182,30 @@ pub record Variants (d : Demands) : Type 0 where
   -- of any two files of the same length
   pub hidden-digits-reach-nothing : NotSo (d .hidden-digits-reach-nothing)
       ((edition : ℕ) (s t : List ℕ) → length s ≡ length t → cardFileRow (checkOf edition s) ≡ cardFileRow (checkOf edition t))
+  pub masks-lines : NotSo (d .hidden-digits-reach-nothing .masks-lines)
+      ((s t : List ℕ) → length s ≡ length t → (answer-s answer-t : ℕ) (after-s after-t : List ℕ) →
+      MasksLines s answer-s after-s → MasksLines t answer-t after-t → answer-s ≡ answer-t)
+  -- before the end: not equally much of both; what waits to be written; not equally much, read whole; what is printed after another last read
+  pub so-far : NotSo (d .hidden-digits-reach-nothing .so-far)
+      ((edition : ℕ) (cs ds : List (List ℕ)) (more-of-one more-of-other : List ℕ) → TwinFiles (joinedChunks cs ++ more-of-one) (joinedChunks ds ++ more-of-other) →
+      cardFileRow (stream.answerOf (cardTaken edition cs)) ≡ cardFileRow (stream.answerOf (cardTaken edition ds)))
+  pub waits-so-far : NotSo (d .hidden-digits-reach-nothing .written-so-far)
+      ((cs ds : List (List ℕ)) → ComeAlike TwinFiles cs ds → copiedInChunks cs .waiting ≡ copiedInChunks ds .waiting)
+  pub taken-so-far : NotSo (d .hidden-digits-reach-nothing .taken-so-far)
+      ((edition : ℕ) (cs ds : List (List ℕ)) (more-of-one more-of-other : List ℕ) → TwinFiles (joinedChunks cs ++ more-of-one) (joinedChunks ds ++ more-of-other) →
+      verdictText (checkOf edition (joinedChunks cs)) ≡ verdictText (checkOf edition (joinedChunks ds)))
+  pub printed : NotSo (d .hidden-digits-reach-nothing .printed)
+      ((edition : ℕ) (cs ds : List (List ℕ)) → ComeAlike TwinFiles cs ds → (got other : Got) →
+      outcomeText (outcomeAt got (cardTaken edition cs)) ≡ outcomeText (outcomeAt other (cardTaken edition ds)))
+  -- a letter put for a hidden digit; a digit put for an open one
+  pub record-twins-made : NotSo (d .twins-made .records)
+      ((r s : List ℕ) → AgreeOutside (λ i. hiddenInRecord r i && digit (getD r i 0)) r s → TwinRecords r s)
+  pub file-twins-made : NotSo (d .twins-made .files) ((s t : List ℕ) → DigitsChanged (λ i. true) s t → TwinFiles s t)
+  -- of records that read alike, though one has an accent; of files of the same length
+  pub same-way : NotSo (d .same-way .records)
+      ((edition : ℕ) (r s : List ℕ) → readingOf edition r ≡ readingOf edition s → passesQuick edition r ≡ passesQuick edition s)
+  pub same-ways : NotSo (d .same-way .files) ((edition : ℕ) (s t : List ℕ) → length s ≡ length t → waysOf edition s ≡ waysOf edition t)
+  pub same-sizes : NotSo (d .same-way .sizes) ((s t : List ℕ) → length s ≡ length t → sizesOf s ≡ sizesOf t)
   -- the places one late
   pub masked-where-hidden : NotSo (d .masked-where-hidden)
       ((file : List ℕ) (i : ℕ) → getD (maskedFile file) i 0 ≡ cond (hiddenIn file (i + 1)) 42 (getD file i 0))

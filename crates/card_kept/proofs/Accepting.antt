@@ -23,16 +23,16 @@ use Rattle.card_file.specs.CardFile.{endOf, ranOf, checkOf}
 use Rattle.card_kept.specs.Fields.{numberAt}
 use Rattle.card_kept.specs.Records.{A9Kept}
 use Rattle.card_kept.specs.Kept.{File, batchesRecords, recordsOf, FileKept, Kept, transactionsOf, forecastsOf, settledOf, creditsOf, debitsOf}
-use Rattle.card_kept.specs.Numbers.{plainTotals}
+use Rattle.card_kept.specs.Numbers.{plainTotals, plainAdjusted}
 use Rattle.card_kept.proofs.PlainTotals.{none-plus}
-use Rattle.card_kept.proofs.Transactions.{adjustedOf, same-adjusted}
+use Rattle.card_kept.proofs.Transactions.{same-adjusted}
 use Rattle.card_kept.proofs.TwoSets.{same-sets}
 use Rattle.card_kept.proofs.PlainSteps.{same-at, after, behindPlain, Small, still-small, step}
 use Rattle.card_kept.proofs.OneLine.{file-cut}
 use Rattle.card_kept.proofs.Batches.{fed-row, lines-are, Comes, comes, lastBatch, batches-taken}
 
 -- a current edition is open
-opens : (e : ℕ) → current e ≡ true → openStage e ≡ Start
+pub opens : (e : ℕ) → current e ≡ true → openStage e ≡ Start
 opens e h = ap openAt (current-fault e h)
 
 pub open-small : (e : ℕ) → Small (openOf e)
@@ -56,8 +56,8 @@ plainNumbers f =
       records = length (recordsOf f);
       batches = length (f .batches);
       totals = setsOf (plainTotals (forecastsOf f)) (plainTotals (settledOf f));
-      credits = adjustedOf (creditsOf f);
-      debits = adjustedOf (debitsOf f);
+      credits = plainAdjusted (creditsOf f);
+      debits = plainAdjusted (debitsOf f);
     }
 
 -- the state that the records of a file lead to

@@ -2,7 +2,7 @@
 -- the next piece is a record that keeps the rules, and the run behind it says what the other pieces are.
 use Prim.Native.Nat.{ℕ, suc, _+_}
 use mathlib.Core.Path.{_≡_, refl, sym, _∙_, ap, subst}
-use mathlib.Core.List.{List, [], _∷_, _++_, map, append-assoc}
+use mathlib.Core.List.{List, [], _∷_, _++_, map, map-append, append-assoc}
 use mathlib.Core.Bool.{true, false≢true}
 use native.Mathlib.Omega.{arith}
 use lib.ListN.{length, length-append, length-map}
@@ -68,11 +68,6 @@ SaysLeft st ps rest =
     (st .stage ≡ BetweenBatches → BatchesLeft (st .edition) (suc (st .numbers .records)) ps rest) ×
     (st .stage ≡ InBatch → TransactionsLeft (st .edition) (suc (st .numbers .records)) (st .batch) ps rest)
 
--- records of two lists
-map-row : (rs ss : List (List ℕ)) → map withCr (rs ++ ss) ≡ map withCr rs ++ map withCr ss
-map-row [] ss = refl
-map-row (r ∷ rs) ss = ap (λ l. withCr r ∷ l) (map-row rs ss)
-
 module _ (st : Running) (r : List ℕ) (ps : List (List ℕ)) (rest : List ℕ) (a : Accepted) (small : Small st) (taken : EndsAccepted (fedOf st r) ps rest a) where
   -- the run behind a record that keeps the rules
   pub went-on : (kind : Kind) → placed (st .stage) kind ≡ true → NextKept kind st r → EndsAccepted (behindPlain kind st r) ps rest a
@@ -96,7 +91,7 @@ module _ (st : Running) (r : List ℕ) (ps : List (List ℕ)) (rest : List ℕ) 
         is =
             ap (λ l. withCr r ∷ l)
             (s .is ∙ ap (λ l. map withCr (records ++ (s .l9 ∷ [])) ++ l) (others .is) ∙
-            sym (map-row (records ++ (s .l9 ∷ [])) (batchesRecords (others .batches) ++ (others .a9 ∷ []))) ∙
+            sym (map-append withCr (records ++ (s .l9 ∷ [])) (batchesRecords (others .batches) ++ (others .a9 ∷ []))) ∙
             ap (map withCr) (sym (append-assoc (records ++ (s .l9 ∷ [])) (batchesRecords (others .batches)) (others .a9 ∷ []))));
         none-left = others .none-left;
         keep = (

@@ -20,4 +20,7 @@ pub mod KeptMeansKept
 pub mod AtItsPlace
 pub mod Standing
 pub mod Outcomes
+pub mod WrittenOut
+pub mod State
 pub mod FirstFault
+pub mod Limits

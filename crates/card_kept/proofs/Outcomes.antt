@@ -14,6 +14,7 @@ use Rattle.refusal.specs.Rules.{Rule, ruleAt, firstBroken, allHold}
 use Rattle.refusal.proofs.Faults.{not-both}
 use Rattle.refusal.proofs.Rules.{all-hold, none-broken, is-first, gives-first}
 use Rattle.lines.specs.Lines.{endsInCr, withoutLast}
+use Rattle.first_fault.specs.InTurn.{piece, rest}
 use Rattle.card_adjustment.specs.Aj.{isCredit}
 use Rattle.card_record.specs.declared.reading.Reading.{Reading}
 use Rattle.card_record.specs.declared.reading.Reading.the-variants.{
@@ -38,7 +39,7 @@ use Rattle.card_file.specs.Feeding.{fedOf}
 use Rattle.card_run.specs.Answer.{answerAt, answerOf}
 use Rattle.card_file.specs.CardFile.{unendedAt, unendedOf, lineOf, endOf}
 use Rattle.card_run.proofs.FileRows.{isRefusal}
-use Rattle.card_kept.specs.FirstFault.{ended, endRule, rulesFromKind, rulesAt, RefusedBy, piece, rest, nextRules}
+use Rattle.card_kept.specs.FirstFault.{ended, endRule, rulesFromKind, rulesAt, RefusedBy, nextRules}
 use Rattle.card_kept.proofs.Adjustments.{either-way}
 use Rattle.card_kept.proofs.AtItsPlace.{fed-by-fault}
 

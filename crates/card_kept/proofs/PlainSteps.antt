@@ -32,6 +32,7 @@ use Rattle.card_kept.specs.Fields.{numberAt}
 use Rattle.card_kept.specs.Adjustment.{adjustmentType, adjustmentNet}
 use Rattle.card_kept.specs.Sale.{payableGross}
 use Rattle.card_kept.specs.Kept.{Transaction, sale, adjustment, sumOver, isCredit, isDebit, picked}
+use Rattle.card_kept.specs.Numbers.{plainAdjusted}
 use Rattle.card_kept.proofs.FieldsKept.{plain-number}
 use Rattle.card_kept.proofs.Adjustments.{credit-or-debit, plainAj, plain-aj, net-below}
 use Rattle.card_kept.proofs.PlainTotals.{sold-alone, Within, sold-is, sold-within, more-within, none-within}
@@ -40,7 +41,6 @@ use Rattle.card_kept.proofs.TwoSets.{withSales, sets-none, sets-row, pa
 use Rattle.card_kept.proofs.Transactions.{
   withTransactions,
   same-batch,
-  adjustedOf,
   same-adjusted,
   adjusted-row,
   AdjustedWithin,
@@ -67,8 +67,8 @@ abbrev pub after : Running → Stage → ℕ → ℕ → List Transaction → Op
 after st stage records batches ts batch =
     at st stage records batches
     (withSales (st .numbers .totals) ts)
-    (many.plus (st .numbers .credits) (adjustedOf (picked isCredit ts)))
-    (many.plus (st .numbers .debits) (adjustedOf (picked isDebit ts)))
+    (many.plus (st .numbers .credits) (plainAdjusted (picked isCredit ts)))
+    (many.plus (st .numbers .debits) (plainAdjusted (picked isDebit ts)))
     batch
 
 pub same-after : (st : Running) (ts : List Transaction) {s s' : Stage} {n n' b b' : ℕ} {u u' : OpenBatch} → s ≡ s' → n ≡ n' → b ≡ b' → u ≡ u' →
@@ -146,7 +146,7 @@ module _ (st : Running) (r : List ℕ) (small : Small st) where
 
   -- behind an adjustment,
   module _ (below : adjustmentNet r < 10 ^ 11) where
-    one-more : (a : Adjusted) → AdjustedWithin (st .numbers .records) a → oneAdjustmentMore (adjustmentNet r) a ≡ many.plus a (adjustedOf (r ∷ []))
+    one-more : (a : Adjusted) → AdjustedWithin (st .numbers .records) a → oneAdjustmentMore (adjustmentNet r) a ≡ many.plus a (plainAdjusted (r ∷ []))
     unfolding sumOver
     one-more a within = same-adjusted (omega (arith, small .records, within .count)) (omega (arith, small .records, within .net))
 

@@ -3,7 +3,7 @@
 use Prim.Native.Nat.{ℕ, suc, _+_, _^_, _≤_, _<_}
 use mathlib.Core.Path.{_≡_, refl, sym, subst}
 use mathlib.Core.List.{List, [], _∷_}
-use mathlib.Core.Bool.{Bool, true, false, cond, _&&_, true≢false, false≢true}
+use mathlib.Core.Bool.{true, false, _&&_, false≢true}
 use native.Mathlib.Nat.{add-zero, zero-add}
 use native.Mathlib.Omega.{arith}
 use lib.ListN.{length}
@@ -15,7 +15,6 @@ use Rattle.refusal.specs.declared.Fault.the-variants.{Nothing, At}
 use Rattle.refusal.specs.Rules.{Rule, firstBroken, allHold}
 use Rattle.refusal.proofs.Rules.{all-hold}
 use Rattle.text.proofs.Alphabets.{both-left, both-right}
-use Rattle.lines.specs.Lines.{endsInCr, withoutLast}
 use Rattle.card_sale.proofs.Ranges.{cv-below}
 use Rattle.card_adjustment.specs.Aj.{isCredit}
 use Rattle.card_adjustment.proofs.Ranges.{aj-below}
@@ -42,9 +41,6 @@ use Rattle.card_step.specs.Rules.{nseqRule, joinedAt, rulesOf}
 use Rattle.card_step.specs.Behind.{behind}
 use Rattle.card_step.specs.Step.{behindOrRefused, judgedOf, tookAt}
 use Rattle.card_file.specs.Feeding.{fedOf, fedAll}
-use Rattle.card_run.specs.Answer.{answerAt, answerOf}
-use Rattle.card_file.specs.CardFile.{unendedAt, unendedOf, lineOf, linesOf}
-use Rattle.card_run.proofs.FileRows.{isRefusal}
 use Rattle.card_kept.proofs.Adjustments.{either-way}
 
 -- n records have come, and there is room for one more
@@ -145,46 +141,3 @@ fed-all k n st (r ∷ rs) low h =
 pub fed-open : (edition : ℕ) (rs : List (List ℕ)) → Stands 0 (length rs) (fedAll (openOf edition) rs)
 fed-open edition rs =
     subst (λ m. Stands 0 m (fedAll (openOf edition) rs)) (zero-add (length rs)) (fed-all 0 0 (openOf edition) rs (omega arith) (opened edition))
-
--- bytes that are no record, or have no line end, are refused
-unended : (k n : ℕ) (st : Running) → k ≤ suc n → Stands k n st → Stands k (suc n) (unendedOf st)
-unfolding unendedAt lateAt
-unended k n st low = by (st .stage) refl
-  where
-    by : (s : Stage) → st .stage ≡ s → StandsAt k n s st → Stands k (suc n) (unendedAt s st)
-    by Start e h = refused-next st n h k low
-    by BetweenBatches e h = refused-next st n h k low
-    by InBatch e h = refused-next st n h k low
-    by Ended e h = refused-next st n h k low
-    by Closed e h = absurd h
-    by (Refused x) e h = subst (λ s. StandsAt k (suc n) s st) (sym e) (h .0, omega arith)
-
--- one piece more
-line : (n : ℕ) (st : Running) (p : List ℕ) → Stands 0 n st → Stands 0 (suc n) (lineOf st p)
-line n st p h = by (endsInCr p)
-  where
-    by : (ends : Bool) → Stands 0 (suc n) (cond ends (fedOf st (withoutLast p)) (unendedOf st))
-    by true = fed 0 n st (withoutLast p) (omega arith) h
-    by false = unended 0 n st (omega arith) h
-
--- one piece after the other
-lines : (n : ℕ) (st : Running) (ps : List (List ℕ)) → Stands 0 n st → Stands 0 (n + length ps) (linesOf st ps)
-unfolding linesOf
-lines n st [] h = rw add-zero h
-lines n st (p ∷ ps) h = subst (λ m. Stands 0 m (linesOf (lineOf st p) ps)) (moved n (length ps)) (lines (suc n) (lineOf st p) ps (line n st p h))
-
-pub lines-open : (edition : ℕ) (ps : List (List ℕ)) → Stands 0 (length ps) (linesOf (openOf edition) ps)
-lines-open edition ps = subst (λ m. Stands 0 m (linesOf (openOf edition) ps)) (zero-add (length ps)) (lines 0 (openOf edition) ps (opened edition))
-
--- a run that is not refused has counted its records
-pub reached : (k n : ℕ) (st : Running) → Stands k n st → isRefusal (answerOf st) ≡ false → Reached n st
-unfolding answerAt
-reached k n st = by (st .stage)
-  where
-    by : (s : Stage) → StandsAt k n s st → isRefusal (answerAt s st) ≡ false → Reached n st
-    by Start h e = h
-    by BetweenBatches h e = h
-    by InBatch h e = h
-    by Ended h e = h
-    by Closed h e = absurd h
-    by (Refused x) h e = absurd (true≢false e)

@@ -10,6 +10,7 @@ use Rattle.card_run.specs.declared.batch.OpenBatch.{OpenBatch}
 use Rattle.card_run.specs.Adjusted.{noAdjustment}
 use Rattle.card_kept.specs.Adjustment.{adjustmentNet}
 use Rattle.card_kept.specs.Sale.{payableGross}
+use Rattle.card_kept.specs.Numbers.{plainAdjusted}
 use Rattle.card_kept.specs.Kept.{
   Transaction,
   bytesOf,
@@ -89,10 +90,7 @@ same-batch n a t = λ i. record { transactions = n i; added = a i; taken = t i }
 pub batch-row : (b : OpenBatch) (ts us : List Transaction) → withTransactions (withTransactions b ts) us ≡ withTransactions b (ts ++ us)
 batch-row b ts us = same-batch (omega (arith, length-append ts us)) (omega (arith, added-row ts us)) (omega (arith, taken-row ts us))
 
--- how many adjustments there are, and the sum of their nets
-abbrev pub adjustedOf : List (List ℕ) → Adjusted
-adjustedOf rs = record { count = length rs; net = sumOver adjustmentNet rs }
-
+-- adjustments of two rows, counted and summed
 abbrev pub plus : Adjusted → Adjusted → Adjusted
 plus a b = record { count = a .count + b .count; net = a .net + b .net }
 
@@ -102,15 +100,19 @@ same-adjusted c n = λ i. record { count = c i; net = n i }
 pub plus-none : (a : Adjusted) → plus a noAdjustment ≡ a
 plus-none a = same-adjusted (omega arith) (omega arith)
 
-pub adjusted-row : (test : Transaction → Bool) (a : Adjusted) (ts us : List Transaction) →
-    plus (plus a (adjustedOf (picked test ts))) (adjustedOf (picked test us)) ≡ plus a (adjustedOf (picked test (ts ++ us)))
-adjusted-row test a ts us =
+pub picked-adjusted : (test : Transaction → Bool) (ts us : List Transaction) →
+    plainAdjusted (picked test (ts ++ us)) ≡ plus (plainAdjusted (picked test ts)) (plainAdjusted (picked test us))
+picked-adjusted test ts us =
     let rs = picked test ts in
     let ss = picked test us in
     let both = picked-row test ts us in
-    same-adjusted
-    (omega (arith, ap length both, length-append rs ss))
-    (omega (arith, ap (sumOver adjustmentNet) both, sum-row adjustmentNet rs ss))
+    same-adjusted (ap length both ∙ length-append rs ss) (ap (sumOver adjustmentNet) both ∙ sum-row adjustmentNet rs ss)
+
+pub adjusted-row : (test : Transaction → Bool) (a : Adjusted) (ts us : List Transaction) →
+    plus (plus a (plainAdjusted (picked test ts))) (plainAdjusted (picked test us)) ≡ plus a (plainAdjusted (picked test (ts ++ us)))
+adjusted-row test a ts us =
+    let both = picked-adjusted test ts us in
+    same-adjusted (omega (arith, ap (λ b. b .count) both)) (omega (arith, ap (λ b. b .net) both))
 
 -- at most so many, of which each net is at most 10^11
 pub record AdjustedWithin (n : ℕ) (a : Adjusted) : Type 0 where
@@ -123,11 +125,11 @@ pub record BatchWithin (n : ℕ) (b : OpenBatch) : Type 0 where
   pub taken : b .taken ≤ 10 ^ 11 * n
 
 -- one transaction, picked or not
-pub one-within : (test : Transaction → Bool) (t : Transaction) → adjustmentNet (bytesOf t) ≤ 10 ^ 11 → AdjustedWithin 1 (adjustedOf (picked test (t ∷ [])))
+pub one-within : (test : Transaction → Bool) (t : Transaction) → adjustmentNet (bytesOf t) ≤ 10 ^ 11 → AdjustedWithin 1 (plainAdjusted (picked test (t ∷ [])))
 unfolding picked sumOver
 one-within test t below = by (test t)
   where
-    by : (b : Bool) → AdjustedWithin 1 (adjustedOf (cond b (bytesOf t ∷ []) []))
+    by : (b : Bool) → AdjustedWithin 1 (plainAdjusted (cond b (bytesOf t ∷ []) []))
     by true = record { count = omega arith; net = omega arith }
     by false = record { count = omega arith; net = omega arith }
 

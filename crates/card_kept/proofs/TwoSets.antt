@@ -42,7 +42,7 @@ pub sets-none : (s : TwoSets) → withSales s [] ≡ s
 unfolding picked sumOver
 sets-none s = same-sets (plus-none (s .forecast)) (plus-none (s .settled))
 
-picked-totals : (test : Transaction → Bool) (ts us : List Transaction) →
+pub picked-totals : (test : Transaction → Bool) (ts us : List Transaction) →
     plainTotals (picked test (ts ++ us)) ≡ plus (plainTotals (picked test ts)) (plainTotals (picked test us))
 picked-totals test ts us = ap plainTotals (picked-row test ts us) ∙ sold-row (picked test ts) (picked test us)
 

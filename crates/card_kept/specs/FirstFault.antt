@@ -2,13 +2,14 @@
 use Prim.Native.Nat.{ℕ, suc}
 use mathlib.Core.Path.{_≡_}
 use mathlib.Core.Logic.{_↔_}
-use mathlib.Core.List.{List, [], _∷_, _++_, map}
-use mathlib.Core.Bool.{Bool, true, false, not, _&&_}
+use mathlib.Core.List.{List, [], _∷_}
+use mathlib.Core.Bool.{Bool, true, false, not}
 use lib.ListN.{length}
 use Rattle.refusal.specs.declared.Cause.the-variants.{NoLineEnd, KindUnknown, EndsTooEarly, BytesAfterTheEnd}
 use Rattle.refusal.specs.declared.Refusal.{Refusal}
 use Rattle.refusal.specs.Rules.{Rule, ruleAt, allHold, FirstBroken}
-use Rattle.lines.specs.Lines.{Lines, cut, endsInCr, withoutLast}
+use Rattle.lines.specs.Lines.{endsInCr, withoutLast}
+use Rattle.first_fault.specs.InTurn.{Next, piece, rest, RulesBehind, FirstFault, NoFault}
 use Rattle.card_record.specs.declared.kind.KindFound.{KindFound}
 use Rattle.card_record.specs.declared.kind.KindFound.the-variants.{Known, Unknown}
 use Rattle.card_record.specs.Kind.{kindOf}
@@ -16,12 +17,13 @@ use Rattle.card_record.specs.Reading.{kindRules, rightReading}
 use Rattle.card_run.specs.declared.stage.Stage.{Stage}
 use Rattle.card_run.specs.declared.stage.Stage.the-variants.{Start, BetweenBatches, InBatch, Ended, Closed, Refused}
 use Rattle.card_run.specs.declared.running.Running.{Running}
-use Rattle.card_run.specs.Running.{openOf, nextNumber}
+use Rattle.card_run.specs.Running.{nextNumber}
 use Rattle.card_step.specs.Rules.{placedRules}
 use Rattle.card_file.specs.Feeding.{fedOf}
 use Rattle.card_run.specs.Answer.{answerOf, refusedRow, cardFileRow}
-use Rattle.card_file.specs.CardFile.{lineOf, linesOf, checkOf}
+use Rattle.card_file.specs.CardFile.{checkOf}
 use Rattle.refusal.specs.Row.{noRefusal}
+use Rattle.card_kept.specs.State.{plainState}
 
 -- whether A9 has come
 abbrev pub ended : Stage → Bool
@@ -65,46 +67,22 @@ pub record FirstFaultOfRecord (st : Running) (r : List ℕ) : Type 0 where
   -- "No refusal is given otherwise"
   pub is-not : (cardFileRow (answerOf (fedOf st r)) .refusal ≡ noRefusal) ↔ (allHold (rulesAt st r) ≡ true)
 
--- what comes next in a file: a piece that an LF ends, or what is left behind the last LF
-pub data Next : Type 0 where
-  piece : List ℕ → Next
-  rest : List ℕ → Next
-
 -- the rules of what comes next: "13, 12, 3, 4, 5, 6, single fields by position .., then the joined rules"
 abbrev pub nextRules : Running → Next → List Rule
 nextRules st (piece p) = endRule st ∷ ruleAt NoLineEnd 0 (endsInCr p) ∷ rulesFromKind st (withoutLast p)
 nextRules st (rest []) = ruleAt EndsTooEarly 0 (ended (st .stage)) ∷ []
 nextRules st (rest (b ∷ s)) = endRule st ∷ ruleAt NoLineEnd 0 false ∷ []
 
--- all that a file holds, in turn
-abbrev pub inTurn : Lines → List Next
-inTurn ls = map piece (ls .pieces) ++ (rest (ls .rest) ∷ [])
+-- behind records they are taken at the state of those
+abbrev pub rulesBehind : ℕ → RulesBehind
+rulesBehind edition before next = nextRules (plainState edition before) next
 
--- every rule of every piece holds, each at its place
-unfoldable pub piecesHold : Running → List (List ℕ) → Bool
-piecesHold st [] = true
-piecesHold st (p ∷ ps) = allHold (nextRules st (piece p)) && piecesHold (lineOf st p) ps
-
--- where a file is refused
+-- where a file is refused: its first fault gives the cause and the column, and the record is one past the pieces before it
 pub record FirstFaultOfFile (edition : ℕ) (file : List ℕ) (refusal : Refusal) : Type 0 where
-  -- there are pieces all of whose rules hold,
-  pub earlier : List (List ℕ)
-  pub all-hold : piecesHold (openOf edition) earlier ≡ true
-  -- and what comes behind them, a piece or the rest,
-  pub here : Next
-  pub later : List Next
-  pub split : inTurn (cut file) ≡ map piece earlier ++ (here ∷ later)
-  -- breaks a rule, the first of which gives the cause and the column;
-  pub first-broken : FirstBroken (nextRules (linesOf (openOf edition) earlier) here) (refusal .cause) (refusal .column)
-  -- the record is one past the pieces
-  pub number : refusal .«record» ≡ suc (length earlier)
-
--- every rule of a file holds: of each piece, and of the rest
-pub record AllHoldInFile (edition : ℕ) (file : List ℕ) : Type 0 where
-  pub pieces-hold : piecesHold (openOf edition) (cut file .pieces) ≡ true
-  pub rest-holds : allHold (nextRules (linesOf (openOf edition) (cut file .pieces)) (rest (cut file .rest))) ≡ true
+  pub fault : FirstFault (rulesBehind edition) file (refusal .cause) (refusal .column)
+  pub number : refusal .«record» ≡ suc (length (fault .earlier))
 
 -- a file read whole under an edition that is current: the first fault decides, and nothing else
 pub record FirstFaultDecides (edition : ℕ) (file : List ℕ) : Type 0 where
   pub is-refused : (refusal : Refusal) → (cardFileRow (checkOf edition file) ≡ refusedRow refusal) ↔ FirstFaultOfFile edition file refusal
-  pub is-accepted : (cardFileRow (checkOf edition file) .accepted ≡ true) ↔ AllHoldInFile edition file
+  pub is-accepted : (cardFileRow (checkOf edition file) .accepted ≡ true) ↔ NoFault (rulesBehind edition) file

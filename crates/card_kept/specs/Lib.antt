@@ -5,4 +5,6 @@ pub mod Records
 pub mod Kept
 pub mod Numbers
 pub mod Accepts
+pub mod State
 pub mod FirstFault
+pub mod Limits

@@ -5,6 +5,7 @@ use mathlib.Core.List.{List}
 use lib.ListN.{length}
 use Rattle.totals.specs.declared.amounts.Totals.{Totals}
 use Rattle.totals.specs.TwoSets.{summed}
+use Rattle.card_run.specs.declared.adjusted.Adjusted.{Adjusted}
 use Rattle.card_run.specs.declared.answer.Accepted.{Accepted}
 use Rattle.card_kept.specs.Fields.{numberAt}
 use Rattle.card_kept.specs.Adjustment.{adjustmentNet}
@@ -18,6 +19,10 @@ plainTotals rs =
       sales = length rs;
       amounts = record { gross = sumOver payableGross rs; discount = sumOver payableDiscount rs; net = sumOver payableNet rs };
     }
+
+-- how many adjustments there are, and the sum of their nets
+abbrev pub plainAdjusted : List (List ℕ) → Adjusted
+plainAdjusted rs = record { count = length rs; net = sumOver adjustmentNet rs }
 
 -- what totals say of sales
 pub record TotalsOf (sales : List (List ℕ)) (t : Totals) : Type 0 where

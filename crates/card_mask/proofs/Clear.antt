@@ -1,11 +1,9 @@
 -- Masking puts no LF into a piece: the bytes around the card stay, and a star is no LF.
 use Prim.Native.Nat.{ℕ, suc, _+_}
 use mathlib.Core.Path.{_≡_, refl, sym, _∙_, ap}
-use mathlib.Core.List.{List, [], _∷_, _++_, map, append-assoc}
+use mathlib.Core.List.{List, [], _∷_, _++_, map}
 use mathlib.Core.Bool.{Bool, true, false, cond, _&&_, false≢true}
-use native.Mathlib.Omega.{arith}
-use lib.ListN.{take, drop, take-append-drop}
-use lib.Seq.{take-take}
+use lib.ListN.{take, drop}
 use lib.Dec.{eqb}
 use Rattle.text.proofs.Alphabets.{both-left, both-right, both}
 use Rattle.pan.specs.HiddenPlaces.{hiddenPlace}
@@ -18,6 +16,7 @@ use Rattle.card_record.specs.declared.card_part.CardPart.{CardPart}
 use Rattle.card_record.specs.declared.card_part.CardPart.the-variants.{From, Nowhere}
 use Rattle.card_record.specs.CardPart.{cardPart, cardFrom}
 use Rattle.card_mask.specs.Masked.{maskedAt, maskedRecord, maskedPiece}
+use Rattle.card_mask.proofs.MaskedCard.{around-card}
 
 -- bytes in a row
 clear-row : (s t : List ℕ) → noLf (s ++ t) ≡ noLf s && noLf t
@@ -30,7 +29,7 @@ clear-row (b ∷ s) t = ap (λ q. cond (eqb b lf) false q) (clear-row s t) ∙ o
     one false = refl
 
 -- stars
-stars-clear : (p : ℕ → Bool) (s : List ℕ) → noLf s ≡ true → noLf (starWhere p s) ≡ true
+pub stars-clear : (p : ℕ → Bool) (s : List ℕ) → noLf s ≡ true → noLf (starWhere p s) ≡ true
 unfolding noLf starWhere
 stars-clear p [] e = refl
 stars-clear p (b ∷ s) e = one (p 0) (eqb b lf) refl e (stars-clear (λ i. p (suc i)) s)
@@ -39,15 +38,6 @@ stars-clear p (b ∷ s) e = one (p 0) (eqb b lf) refl e (stars-clear (λ i. p (s
     one star true is e on = absurd (false≢true e)
     one true false is e on = on e
     one false false is e on = rw is (on e)
-
--- a record is its card and what stands around it
-around-card : (k : ℕ) (r : List ℕ) → r ≡ take k r ++ (cardFrom k r ++ drop (k + 19) r)
-around-card k r =
-    let front = take (k + 19) r in
-    sym (sym (append-assoc (take k r) (cardFrom k r) (drop (k + 19) r)) ∙
-    ap (λ (l : List ℕ). (l ++ cardFrom k r) ++ drop (k + 19) r) (sym (take-take k (k + 19) r (omega arith))) ∙
-    ap (λ (l : List ℕ). l ++ drop (k + 19) r) (take-append-drop k front) ∙
-    take-append-drop (k + 19) r)
 
 record-clear : (part : CardPart) (r : List ℕ) → noLf r ≡ true → noLf (maskedAt part r) ≡ true
 unfolding maskedAt

@@ -95,6 +95,11 @@ unfolding copyOf cut rejoined
 copied-as-whole chunks =
     ap (λ (c : Copied). c .written ++ c .waiting) (all-chunks [] chunks) ∙ sym (lines-then-rest (joinedChunks chunks))
 
+-- what is written once these chunks have come: the masked lines of all their bytes
+pub lines-written : (chunks : List (List ℕ)) → foldl copiedOver nothingCopied chunks .written ≡ rejoined (map maskedPiece (cut (joinedChunks chunks) .pieces)) []
+unfolding copyOf cut rejoined
+lines-written chunks = ap (λ (c : Copied). c .written) (all-chunks [] chunks)
+
 -- and of an accepted file nothing waits, so what was written is all of it
 pub accepted-copy-written : (edition : ℕ) (chunks : List (List ℕ)) (a : Numbers) → checkOf edition (joinedChunks chunks) ≡ Accepted a →
     foldl copiedOver nothingCopied chunks ≡ record { written = maskedFile (joinedChunks chunks); waiting = [] }

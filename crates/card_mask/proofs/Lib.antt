@@ -4,6 +4,6 @@ pub mod Copies
 pub mod Answers
 pub mod InChunks
 pub mod Finished
-mod Clear
 pub mod MaskedCard
+pub mod Clear
 pub mod Again

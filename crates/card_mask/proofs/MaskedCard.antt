@@ -2,17 +2,28 @@
 use Prim.Native.Nat.{ℕ, _+_}
 use mathlib.Core.Path.{_≡_, sym, _∙_, ap}
 use mathlib.Core.List.{List, _++_, append-assoc}
+use mathlib.Core.Bool.{false}
 use native.Mathlib.Omega.{arith}
-use lib.ListN.{length, take, drop, length-append}
-use lib.Seq.{length-take-le, length-slice, take-at, drop-at}
+use lib.ListN.{length, take, drop, length-append, take-append-drop}
+use lib.Seq.{length-take-le, length-slice, take-at, drop-at, take-take}
+use Rattle.pan.specs.CardField.{wellFormed}
 use Rattle.pan.specs.Masked.{masked}
-use Rattle.pan.proofs.Masking.{masked-length}
+use Rattle.pan.proofs.Masking.{masked-length, masked-unformed}
 use Rattle.card_content.specs.EqualOutside.{EqualOutside}
 use Rattle.card_record.specs.declared.card_part.CardPart.the-variants.{From}
 use Rattle.card_record.specs.CardPart.{cardPart, cardFrom}
 use Rattle.card_record.proofs.CardParts.{card-inside}
 use Rattle.card_record.proofs.LawOfReading.{same-place}
 use Rattle.card_mask.specs.Masked.{maskedAt}
+
+-- a record is its card and what stands around it
+pub around-card : (k : ℕ) (r : List ℕ) → r ≡ take k r ++ (cardFrom k r ++ drop (k + 19) r)
+around-card k r =
+    let front = take (k + 19) r in
+    sym (sym (append-assoc (take k r) (cardFrom k r) (drop (k + 19) r)) ∙
+    ap (λ (l : List ℕ). (l ++ cardFrom k r) ++ drop (k + 19) r) (sym (take-take k (k + 19) r (omega arith))) ∙
+    ap (λ (l : List ℕ). l ++ drop (k + 19) r) (take-append-drop k front) ∙
+    take-append-drop (k + 19) r)
 
 -- around the card it is the record, and the card, at the same place, is the record's card masked
 pub record MaskedCard (k : ℕ) (r m : List ℕ) : Type 0 where
@@ -41,3 +52,8 @@ masked-card k r has =
       has-too = same-place k r (front ++ (card ++ rest)) has outside;
       card = ap (cardFrom k) parts ∙ ap (drop k) (take-at (front ++ card) rest (k + 19) long) ∙ drop-at front card k short;
     }
+
+-- a card that is not well formed has no hidden place, so the record stays as it is
+pub unformed-card : (k : ℕ) (r : List ℕ) → wellFormed (cardFrom k r) ≡ false → maskedAt (From k) r ≡ r
+unfolding maskedAt
+unformed-card k r e = ap (λ (card : List ℕ). take k r ++ (card ++ drop (k + 19) r)) (masked-unformed (cardFrom k r) e) ∙ sym (around-card k r)

@@ -1,3 +1,4 @@
 mod Answers
 mod Pictures
 mod SurelyRight
+pub mod SameWay

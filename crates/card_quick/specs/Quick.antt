@@ -1,9 +1,10 @@
 -- Of the quick way, and no rule of document 01: what is asked of a record of 199 bytes, and the numbers that it is then read as.
--- No promise rests on it: a law (`proofs/SurelyRight.quick-reads`) says that a sale that passes reads as the slow way reads it.
+-- No answer rests on it: a law (`proofs/SurelyRight.quick-reads`) says that a sale that passes reads as the slow way reads it. That twins pass alike is `same-way` of the demands.
 use Prim.Native.Nat.{ℕ}
 use mathlib.Core.List.{List, [], _∷_}
 use mathlib.Core.Bool.{Bool, true, _&&_}
-use lib.Dec.{leb}
+use lib.ListN.{length}
+use lib.Dec.{leb, eqb}
 use Rattle.text.specs.Literal.{ascii}
 use Rattle.text.specs.Weighed.{valueIfDigits}
 use Rattle.calendar.specs.Day.{isDay}
@@ -51,6 +52,10 @@ daysRight r =
 
 unfoldable pub surelyRight : ℕ → List ℕ → Bool
 surelyRight edition r = inPicture r && (setsRight edition r && daysRight r)
+
+-- whether the quick way passes any bytes; all others go the slow way
+abbrev pub passesQuick : ℕ → List ℕ → Bool
+passesQuick edition r = eqb (length r) 199 && surelyRight edition r
 
 -- the numbers, if they are digits
 abbrev pub amountsIn : Field → Field → Field → List ℕ → Amounts

@@ -13,6 +13,7 @@ ghost use Rattle.card_quick.specs.Quick.{
   setsRight,
   daysRight,
   surelyRight,
+  passesQuick,
   amountsIn,
   quickCv,
 };
@@ -135,15 +136,22 @@ fn numbers(sale: &[u8]) -> Cv
     }
 }
 
+// Whether the quick way passes any bytes.
+fn passes(edition: u64, bytes: &[u8]) -> bool
+    ensures { λ r. ⌜ r ≡ passesQuick edition (now (bytes .entry)) ⌝ }
+{
+    if bytes.len() == Cv::WIDTH {
+        return is_right(edition, &bytes[..Cv::WIDTH]);
+    }
+    false
+}
+
 // Any bytes as a record, without a line end, under an edition: as `card_record` reads it, and quicker where it is a right sale.
 pub fn read(edition: u64, bytes: &[u8]) -> Reading
     ensures { λ r. ⌜ r ≡ readingOf edition (now (bytes .entry)) ⌝ }
 {
-    if bytes.len() == Cv::WIDTH {
-        let sale = &bytes[..Cv::WIDTH];
-        if is_right(edition, sale) {
-            return Reading::Cv(numbers(sale));
-        }
+    if passes(edition, bytes) {
+        return Reading::Cv(numbers(&bytes[..Cv::WIDTH]));
     }
     card_record::reading::read(edition, bytes)
 }

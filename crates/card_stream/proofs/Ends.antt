@@ -19,3 +19,11 @@ pub bytes-held : (held : List ℕ) (st : Running) {n : ℕ} → n ≡ length hel
 unfolding endOf withHeld
 bytes-held [] st e z = absurd (z e)
 bytes-held (b ∷ s) st e z = (refl, refl)
+
+-- equally many bytes held are all that either looks at
+pub equally-held : (st : Running) (held other : List ℕ) → length held ≡ length other → (withHeld held st ≡ withHeld other st) × (endOf st held ≡ endOf st other)
+unfolding endOf withHeld
+equally-held st [] [] e = (refl, refl)
+equally-held st [] (c ∷ t) e = absurd (omega arith)
+equally-held st (b ∷ s) [] e = absurd (omega arith)
+equally-held st (b ∷ s) (c ∷ t) e = (refl, refl)

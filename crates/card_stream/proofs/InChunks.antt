@@ -6,11 +6,11 @@ use mathlib.Core.List.{List, [], _∷_, foldl}
 use native.Mathlib.Omega.{arith}
 use lib.ListN.{length}
 use Rattle.lines.specs.Lines.{cut}
-use Rattle.chunks.specs.Unfinished.{clippedWith, oneMore}
+use Rattle.chunks.specs.Unfinished.{oneMore, clippedWith, clipped}
 use Rattle.chunks.specs.Chunks.{Run, startOf, ranOver, joinedChunks}
 use Rattle.chunks.proofs.Clipped.{clipped-some}
 use Rattle.chunks.proofs.Held.{held-back}
-use Rattle.chunks.proofs.Streams.{LooksNoFurther, in-chunks}
+use Rattle.chunks.proofs.Streams.{LooksNoFurther, all-chunks}
 use Rattle.card_run.specs.declared.running.Running.{Running}
 use Rattle.card_run.specs.Running.{openOf as opened}
 use Rattle.card_run.specs.Answer.{answerOf as answered}
@@ -42,6 +42,16 @@ unfolding linesOf
 as-fold st [] = refl
 as-fold st (p ∷ ps) = as-fold (lineOf st p) ps
 
+-- once chunks have come, the lines of the bytes joined have been taken, however they were cut, and of the rest behind them is held what is needed
+pub taken-as-whole : (edition : ℕ) (chunks : List (List ℕ)) →
+    foldl takenOf (openOf edition) chunks ≡
+    streamOf (record { state = linesOf (opened edition) (cut (joinedChunks chunks) .pieces); held = clipped (cut (joinedChunks chunks) .rest) })
+taken-as-whole edition chunks =
+    let file = cut (joinedChunks chunks) in
+    as-runs (startOf (opened edition)) chunks ∙
+    ap streamOf (all-chunks lineOf no-further (opened edition) chunks) ∙
+    ap (λ st. streamOf (record { state = st; held = clipped (file .rest) })) (as-fold (opened edition) (file .pieces))
+
 -- the answer behind the end is that of the state
 behind-end : (st : Running) → answerOf (streamOf (startOf st)) ≡ answered st
 unfolding withHeld
@@ -51,10 +61,9 @@ behind-end st = refl
 pub chunks-as-whole : (edition : ℕ) (chunks : List (List ℕ)) →
     answerOf (endedOf (foldl takenOf (openOf edition) chunks)) ≡ checkOf edition (joinedChunks chunks)
 chunks-as-whole edition chunks =
-    let run = foldl (ranOver lineOf) (startOf (opened edition)) chunks in
     let file = cut (joinedChunks chunks) in
-    ap (λ s. answerOf (endedOf s)) (as-runs (startOf (opened edition)) chunks) ∙
+    let st = linesOf (opened edition) (file .pieces) in
+    ap (λ s. answerOf (endedOf s)) (taken-as-whole edition chunks) ∙
     behind-end _ ∙
-    ap (λ h. answered (endOf (run .state) h)) (held-back (run .held)) ∙
-    ap answered (in-chunks lineOf no-further endOf end-no-further (opened edition) chunks) ∙
-    ap (λ st. answered (endOf st (file .rest))) (as-fold (opened edition) (file .pieces))
+    ap (λ h. answered (endOf st h)) (held-back (clipped (file .rest))) ∙
+    ap answered (end-no-further st (file .rest))

@@ -1,4 +1,4 @@
--- HIDDEN DIGITS REACH NOTHING: twin records (TwinRecords) and twin files (TwinFiles, TwinMasks) have one masked form, so they are told alike.
+-- HIDDEN DIGITS REACH NOTHING: twin records and twin files have one masked form (TwinMasks), so they are told alike.
 use Prim.Native.Nat.{ℕ}
 use mathlib.Core.Path.{_∙_, ap}
 use mathlib.Core.List.{List}
@@ -7,11 +7,10 @@ use Rattle.pan.proofs.Stars.{length-kept, at-place}
 use Rattle.demands.specs.HiddenDigits.{hiddenIn, TwinRecords, TwinFiles, HiddenDigitsReachNothing, MaskedWhereHidden}
 use Rattle.demands.proofs.MaskedPlaces.{stars-where-hidden}
 use Rattle.demands.proofs.ToldAlike.{told-alike}
-use Rattle.demands.proofs.TwinMasks.{same-masked}
-use Rattle.demands.proofs.TwinRecords.{same-masked-record}
+use Rattle.demands.proofs.TwinMasks.{twin-records, twin-files}
 
 pub hidden-digits-reach-nothing : HiddenDigitsReachNothing
-hidden-digits-reach-nothing = told-alike TwinRecords TwinFiles same-masked-record same-masked
+hidden-digits-reach-nothing = told-alike TwinRecords TwinFiles twin-records twin-files
 
 -- and the masked copy is the file with a star at each hidden place
 pub masked-where-hidden : (file : List ℕ) → MaskedWhereHidden file

@@ -10,12 +10,15 @@ pub mod MaskedHidden
 pub mod MaskedRecords
 pub mod MaskedFields
 pub mod MaskedFiles
+pub mod ComeAlike
 pub mod ToldAlike
 pub mod TwinLaws
 pub mod TwinRecords
 pub mod TwinFiles
 pub mod TwinMasks
 pub mod HiddenDigits
+pub mod TwinsMade
+pub mod SameWay
 pub mod MaskTwice
 pub mod LentBuffers
 pub mod RulesKept

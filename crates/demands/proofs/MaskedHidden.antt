@@ -20,9 +20,9 @@ use Rattle.card_mask.proofs.MaskedCard.{masked-card}
 use Rattle.card_mask.proofs.Again.{cut-masked}
 use Rattle.demands.specs.HiddenDigits.{hiddenAt, hiddenInRecord, hiddenInPiece, hiddenInPieces, hiddenIn}
 
-of-record : (r : List ℕ) (i : ℕ) → hiddenInRecord (maskedRecord r) i ≡ hiddenInRecord r i
+pub same-hidden-record : (r : List ℕ) (i : ℕ) → hiddenInRecord (maskedRecord r) i ≡ hiddenInRecord r i
 unfolding maskedAt hiddenAt
-of-record r i = by (cardPart r) refl
+same-hidden-record r i = by (cardPart r) refl
   where
     by : (part : CardPart) → cardPart r ≡ part → hiddenInRecord (maskedAt part r) i ≡ hiddenInRecord r i
     by Nowhere e = refl
@@ -36,7 +36,7 @@ of-record r i = by (cardPart r) refl
 of-piece : (p : List ℕ) (i : ℕ) → hiddenInPiece (maskedPiece p) i ≡ hiddenInPiece p i
 of-piece p i =
     by-test (endsInCr p)
-    (λ e. let m = maskedRecord (withoutLast p) in rw (e, cr-ends m, before-last m cr) (of-record (withoutLast p) i))
+    (λ e. let m = maskedRecord (withoutLast p) in rw (e, cr-ends m, before-last m cr) (same-hidden-record (withoutLast p) i))
     (λ e. ap (λ q. hiddenInPiece q i) (sym (no-record p e)))
 
 of-pieces : (ps : List (List ℕ)) (i : ℕ) → hiddenInPieces (map maskedPiece ps) i ≡ hiddenInPieces ps i

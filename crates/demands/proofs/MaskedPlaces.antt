@@ -1,7 +1,7 @@
 -- The masked copy of a file is the file with a star at each hidden place: of a record by its card's part, of a piece, and of pieces in a row.
 use Prim.Native.Nat.{ℕ, suc, _+_, _≤_}
 use mathlib.Core.Path.{_≡_, refl, sym, _∙_, ap, ap₂}
-use mathlib.Core.List.{List, [], _∷_, _++_, map, append-assoc}
+use mathlib.Core.List.{List, [], _∷_, _++_, map, append-nil, append-assoc}
 use mathlib.Core.Bool.{Bool, false, cond}
 use native.Mathlib.Omega.{arith}
 use lib.ListN.{length, take, drop, length-take, take-append-drop}
@@ -69,22 +69,30 @@ of-piece p =
 on : (n i : ℕ) → n + suc i ≡ n + 1 + i
 on n i = omega arith
 
--- pieces in a row
-of-pieces : (ps : List (List ℕ)) (rest : List ℕ) → rejoined (map maskedPiece ps) rest ≡ starWhere (hiddenInPieces ps) (rejoined ps rest)
+-- pieces in a row, and bytes behind them that are starred as further pieces say
+pub of-pieces : (ps qs : List (List ℕ)) (rest : List ℕ) →
+    rejoined (map maskedPiece ps) (starWhere (hiddenInPieces qs) rest) ≡ starWhere (hiddenInPieces (ps ++ qs)) (rejoined ps rest)
 unfolding rejoined starWhere
-of-pieces [] rest = sym (none-picked (hiddenInPieces []) rest (λ i l. in-none i))
-of-pieces (p ∷ ps) rest =
-    let h = hiddenInPieces (p ∷ ps) in
+of-pieces [] qs rest = refl
+of-pieces (p ∷ ps) qs rest =
+    let h = hiddenInPieces (p ∷ ps ++ qs) in
     let s = rejoined ps rest in
     let n = length p in
     let here : n + 0 ≡ n = omega arith in
-    let first : starWhere h p ≡ starWhere (hiddenInPiece p) p = same-tests h (hiddenInPiece p) p (λ i l. in-first p ps i (omega arith)) in
-    let open-lf : h (n + 0) ≡ false = ap h here ∙ in-first p ps n (omega arith) ∙ past-piece p in
-    let later : starWhere (λ i. h (n + suc i)) s ≡ starWhere (hiddenInPieces ps) s =
-    same-tests (λ i. h (n + suc i)) (hiddenInPieces ps) s (λ i l. ap h (on n i) ∙ in-later p ps n i refl) in
+    let first : starWhere h p ≡ starWhere (hiddenInPiece p) p = same-tests h (hiddenInPiece p) p (λ i l. in-first p (ps ++ qs) i (omega arith)) in
+    let open-lf : h (n + 0) ≡ false = ap h here ∙ in-first p (ps ++ qs) n (omega arith) ∙ past-piece p in
+    let later : starWhere (λ i. h (n + suc i)) s ≡ starWhere (hiddenInPieces (ps ++ qs)) s =
+    same-tests (λ i. h (n + suc i)) (hiddenInPieces (ps ++ qs)) s (λ i l. ap h (on n i) ∙ in-later p (ps ++ qs) n i refl) in
     sym (in-a-row h p (lf ∷ s) ∙
-    ap₂ _++_ (first ∙ sym (of-piece p)) (ap₂ _∷_ (ap (λ b. cond b 42 lf) open-lf) (later ∙ sym (of-pieces ps rest))))
+    ap₂ _++_ (first ∙ sym (of-piece p)) (ap₂ _∷_ (ap (λ b. cond b 42 lf) open-lf) (later ∙ sym (of-pieces ps qs rest))))
+
+-- the rest of a file, behind all its pieces, has no star
+rest-plain : (rest : List ℕ) → rest ≡ starWhere (hiddenInPieces []) rest
+rest-plain rest = sym (none-picked (hiddenInPieces []) rest (λ i l. in-none i))
 
 -- THE MASKED COPY, of every file
 pub stars-where-hidden : (file : List ℕ) → maskedFile file ≡ starWhere (hiddenIn file) file
-stars-where-hidden file = of-pieces (cut file .pieces) (cut file .rest) ∙ ap (starWhere (hiddenIn file)) (cut-is-cut file .whole)
+stars-where-hidden file =
+    let ls = cut file in
+    ap (rejoined (map maskedPiece (ls .pieces))) (rest-plain (ls .rest)) ∙ of-pieces (ls .pieces) [] (ls .rest) ∙
+    ap₂ (λ ps s. starWhere (hiddenInPieces ps) s) (append-nil (ls .pieces)) (cut-is-cut file .whole)

@@ -1,5 +1,5 @@
 -- Records, and files, with one masked form are told alike: each question tells of the masked form what it tells of the record or the file (MaskedRecords,
--- MaskedFields, MaskedFiles).
+-- MaskedFields, MaskedFiles), and of a file that is still coming what it tells of as much of the masked form (ComeAlike).
 use Prim.Native.Nat.{ℕ, zero, suc}
 use mathlib.Core.Path.{_≡_, refl, sym, _∙_, ap, ap₂}
 use mathlib.Core.List.{List, _++_}
@@ -16,19 +16,21 @@ use Rattle.card_file.specs.CardFile.{checkOf}
 use Rattle.card_file.specs.Feeding.{fedOf, fedAll}
 use Rattle.card_file.specs.Room.{roomRules, answerBehind, answerWithRoom}
 use Rattle.card_stream.proofs.InChunks.{chunks-as-whole}
-use Rattle.card_mask.specs.Masked.{maskedRecord, maskedFile}
+use Rattle.card_mask.specs.Masked.{maskedRecord, maskedFile, finishedIn}
 use Rattle.card_mask.specs.Mask.{maskAnswer, maskedInto}
 use Rattle.card_mask.proofs.InChunks.{masked-length, copied-as-whole}
+use Rattle.card_program.specs.Verdict.{verdictText, outcomeText, descriptorOf}
 use Rattle.card_sheet.specs.SheetOf.{sheetInto}
 use Rattle.sale_field.specs.Field.{refusalOf, fieldOf, fieldRow}
 use Rattle.demands.specs.Feeding.{Call, called}
-use Rattle.demands.specs.ToldAlike.{AlikeLists, none, one-more, AlikeCalls, no-call, feeds, closes, ToldAlike}
+use Rattle.demands.specs.ToldAlike.{AlikeLists, none, one-more, AlikeCalls, no-call, feeds, closes, ComeAlike, ToldAlike}
 use Rattle.demands.proofs.MaskedRecords.{same-reading}
 use Rattle.demands.proofs.MaskedFields.{same-refusal, same-field}
-use Rattle.demands.proofs.MaskedFiles.{same-fed, same-check}
+use Rattle.demands.proofs.MaskedFiles.{same-fed, same-check, same-finished}
+use Rattle.demands.proofs.ComeAlike.{written-alike, so-far-alike, printed-alike, taken-alike}
 
 -- where a form is told as what it is the form of, all that share the form are told alike
-alike : {A : Type 0} (form : List ℕ → List ℕ) (tell : List ℕ → A) → ((s : List ℕ) → tell (form s) ≡ tell s) → {s t : List ℕ} → form s ≡ form t → tell s ≡ tell t
+pub alike : {A : Type 0} (form : List ℕ → List ℕ) (tell : List ℕ → A) → ((s : List ℕ) → tell (form s) ≡ tell s) → {s t : List ℕ} → form s ≡ form t → tell s ≡ tell t
 alike form tell own {s} {t} e = sym (own s) ∙ ap tell e ∙ own t
 
 -- two files with one masked form: the answer, the length, and a question that writes, by the room that it needs
@@ -78,6 +80,16 @@ module _ (AlikeRecords AlikeFiles : List ℕ → List ℕ → Type 0)
   calls-alike st (feeds {cs = cs} w ws) = ap (λ next. called next cs) (fed-alike st w) ∙ calls-alike _ ws
   calls-alike st (closes ws) = calls-alike (closedOf st) ws
 
+  -- equally much of two files with one masked form
+  come-alike : {cs ds : List (List ℕ)} → ComeAlike AlikeFiles cs ds → ComeAlike (λ s t. maskedFile s ≡ maskedFile t) cs ds
+  come-alike w =
+      record {
+        more-of-one = w .more-of-one;
+        more-of-other = w .more-of-other;
+        files = files _ _ (w .files);
+        equally-much = w .equally-much;
+      }
+
   pub told-alike : ToldAlike AlikeRecords AlikeFiles
   told-alike =
       record {
@@ -92,11 +104,22 @@ module _ (AlikeRecords AlikeFiles : List ℕ → List ℕ → Type 0)
               ap cardFileRow (m .answers ∙ answers ∙ sym (n .answers)),
               m .leaves ∙ ap (λ answer. maskedInto answer s out) answers ∙ output-alike s t e (maskAnswer edition t (length out)) out ∙ sym (n .leaves),
             );
+        masks-lines = λ s t w a b after-s after-t m n.
+            let e = files s t w in
+            (m .counts ∙ alike maskedFile finishedIn same-finished e ∙ sym (n .counts), m .leaves ∙ e ∙ sym (n .leaves));
         in-chunks = λ edition cs ds w.
             let s = joinedChunks cs in
             let t = joinedChunks ds in
             ap cardFileRow (chunks-as-whole edition cs ∙ check-alike s t (files s t w) edition ∙ sym (chunks-as-whole edition ds));
         copied = λ cs ds w. copied-as-whole cs ∙ files (joinedChunks cs) (joinedChunks ds) w ∙ sym (copied-as-whole ds);
+        so-far = λ edition cs ds w. ap cardFileRow (so-far-alike cs ds (come-alike w) edition);
+        written-so-far = λ cs ds w. written-alike cs ds (come-alike w);
+        taken-so-far = λ edition cs ds w.
+            let same = taken-alike cs ds (come-alike w) edition in
+            (ap cardFileRow same, ap verdictText same);
+        printed = λ edition cs ds w got.
+            let same = printed-alike cs ds (come-alike w) edition got in
+            (ap outcomeText same, ap descriptorOf same);
         sheets = λ edition s t out w a b after-s after-t m n.
             let answers = room-alike s t (files s t w) edition 81 (length out) in (
               ap cardFileRow (m .answers ∙ answers ∙ sym (n .answers)),

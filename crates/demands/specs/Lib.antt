@@ -4,6 +4,8 @@ pub mod Feeding
 pub mod InChunks
 pub mod ToldAlike
 pub mod HiddenDigits
+pub mod TwinsMade
+pub mod SameWay
 pub mod MaskTwice
 pub mod Editions
 pub mod LentBuffers

@@ -1,9 +1,11 @@
 -- TOLD ALIKE: records, and files, of which these questions tell the same, a field for each. Which records and which files is a parameter: those that differ
--- only in hidden digits (HiddenDigits), and a file and its masked form (MaskTwice). Not in the list: the answer in chunks before the end, and `mask_lines`.
+-- only in hidden digits (HiddenDigits), and a file and its masked form (MaskTwice). Of the programs `card`, `mask` and `sheet` the list has what they print of a
+-- card file: the text of its outcome, and on which descriptor (`printed`). Which bytes a system call moved, and the mistakes that its answer gives, are the system's affair.
 use Prim.Native.Nat.{ℕ}
 use mathlib.Core.Path.{_≡_}
 use mathlib.Core.List.{List, [], _∷_, _++_}
-use lib.ListN.{take}
+use lib.ListN.{length, take}
+use Rattle.files.specs.declared.reading.Got.{Got}
 use Rattle.chunks.specs.Chunks.{joinedChunks}
 use Rattle.card_record.specs.Reading.{readingOf}
 use Rattle.card_run.specs.declared.running.Running.{Running}
@@ -12,11 +14,15 @@ use Rattle.card_run.specs.Running.{openOf, closedOf}
 use Rattle.card_run.specs.Answer.{cardFileRow}
 use Rattle.card_file.specs.CardFile.{checkOf}
 use Rattle.card_file.specs.Feeding.{fedAll}
+use Rattle.card_stream.specs.Stream as card
+use Rattle.card_mask.specs.Masked.{MasksLines}
 use Rattle.card_mask.specs.Mask.{Masks}
+use Rattle.card_program.specs.Outcome.{outcomeAt}
+use Rattle.card_program.specs.Verdict.{verdictText, outcomeText, descriptorOf}
 use Rattle.card_sheet.specs.SheetOf.{SheetOf}
 use Rattle.sale_field.specs.Field.{refusalOf, fieldOf, fieldRow}
 use Rattle.demands.specs.Feeding.{Call, feed, close, called}
-use Rattle.demands.specs.InChunks.{cardInChunks, copiedInChunks}
+use Rattle.demands.specs.InChunks.{cardTaken, cardInChunks, copiedInChunks}
 
 -- for feeding: equally many records, each the other's
 pub data AlikeLists (Alike : List ℕ → List ℕ → Type 0) : List (List ℕ) → List (List ℕ) → Type 0 where
@@ -28,6 +34,13 @@ pub data AlikeCalls (Alike : List ℕ → List ℕ → Type 0) : List Call → L
   no-call : AlikeCalls Alike [] []
   feeds : {r s : List ℕ} {cs ds : List Call} → Alike r s → AlikeCalls Alike cs ds → AlikeCalls Alike (feed r ∷ cs) (feed s ∷ ds)
   closes : {cs ds : List Call} → AlikeCalls Alike cs ds → AlikeCalls Alike (close ∷ cs) (close ∷ ds)
+
+-- for chunks: equally much of two files has come, however it was cut, and more of each may follow
+pub record ComeAlike (Alike : List ℕ → List ℕ → Type 0) (cs ds : List (List ℕ)) : Type 0 where
+  pub more-of-one : List ℕ
+  pub more-of-other : List ℕ
+  pub files : Alike (joinedChunks cs ++ more-of-one) (joinedChunks ds ++ more-of-other)
+  pub equally-much : length (joinedChunks cs) ≡ length (joinedChunks ds)
 
 pub record ToldAlike (AlikeRecords AlikeFiles : List ℕ → List ℕ → Type 0) : Type 0 where
   -- what a record is read as
@@ -44,11 +57,26 @@ pub record ToldAlike (AlikeRecords AlikeFiles : List ℕ → List ℕ → Type 0
   -- the answer of masking, and every byte of the output
   pub masks : (edition : ℕ) (s t out : List ℕ) → AlikeFiles s t → (answer-s answer-t : CardAnswer) (after-s after-t : List ℕ) →
       Masks edition s out answer-s after-s → Masks edition t out answer-t after-t → (cardFileRow answer-s ≡ cardFileRow answer-t) × (after-s ≡ after-t)
+  -- and of masking lines where they stand: how many bytes the finished ones take, and every byte that it leaves
+  pub masks-lines : (s t : List ℕ) → AlikeFiles s t → (answer-s answer-t : ℕ) (after-s after-t : List ℕ) →
+      MasksLines s answer-s after-s → MasksLines t answer-t after-t → (answer-s ≡ answer-t) × (after-s ≡ after-t)
   -- the answer of a file in chunks, however the two are cut, and the bytes that masking it has written
   pub in-chunks : (edition : ℕ) (cs ds : List (List ℕ)) → AlikeFiles (joinedChunks cs) (joinedChunks ds) →
       cardFileRow (cardInChunks edition cs) ≡ cardFileRow (cardInChunks edition ds)
   pub copied : (cs ds : List (List ℕ)) → AlikeFiles (joinedChunks cs) (joinedChunks ds) →
       copiedInChunks cs .written ++ copiedInChunks cs .waiting ≡ copiedInChunks ds .written ++ copiedInChunks ds .waiting
+  -- the answer so far, before the end, and the bytes that masking has written so far
+  pub so-far : (edition : ℕ) (cs ds : List (List ℕ)) → ComeAlike AlikeFiles cs ds →
+      cardFileRow (card.answerOf (cardTaken edition cs)) ≡ cardFileRow (card.answerOf (cardTaken edition ds))
+  pub written-so-far : (cs ds : List (List ℕ)) → ComeAlike AlikeFiles cs ds → copiedInChunks cs .written ≡ copiedInChunks ds .written
+  -- the answer of that much, read as a whole file, and its text: by the contract of a program's work (`Checked`) its answer is that of the bytes that it took
+  pub taken-so-far : (edition : ℕ) (cs ds : List (List ℕ)) → ComeAlike AlikeFiles cs ds →
+      (cardFileRow (checkOf edition (joinedChunks cs)) ≡ cardFileRow (checkOf edition (joinedChunks ds))) ×
+      (verdictText (checkOf edition (joinedChunks cs)) ≡ verdictText (checkOf edition (joinedChunks ds)))
+  -- what comes of the last read, whatever it gave: the text that a program prints of the file, and on which descriptor
+  pub printed : (edition : ℕ) (cs ds : List (List ℕ)) → ComeAlike AlikeFiles cs ds → (got : Got) →
+      (outcomeText (outcomeAt got (cardTaken edition cs)) ≡ outcomeText (outcomeAt got (cardTaken edition ds))) ×
+      (descriptorOf (outcomeAt got (cardTaken edition cs)) ≡ descriptorOf (outcomeAt got (cardTaken edition ds)))
   -- the answer of a file's day sheet, and every byte of the output
   pub sheets : (edition : ℕ) (s t out : List ℕ) → AlikeFiles s t → (answer-s answer-t : CardAnswer) (after-s after-t : List ℕ) →
       SheetOf edition s out answer-s after-s → SheetOf edition t out answer-t after-t → (cardFileRow answer-s ≡ cardFileRow answer-t) × (after-s ≡ after-t)

@@ -3,7 +3,7 @@
 use Prim.Native.Nat.{ℕ, _<_}
 use mathlib.Core.Path.{_≡_, sym, _∙_, ap}
 use mathlib.Core.List.{List}
-use mathlib.Core.Bool.{true, false, and-comm, false≢true}
+use mathlib.Core.Bool.{true, false}
 use lib.ListN.{length, getD}
 use Rattle.text.specs.Alphabet.{digit}
 use Rattle.text.proofs.Alphabets.{both, both-left, both-right}
@@ -13,7 +13,7 @@ use Rattle.pan.specs.Masked.{masked}
 use Rattle.pan.specs.AgreeOutside.{AgreeOutside}
 use Rattle.pan.specs.Twins.{Twins}
 use Rattle.pan.proofs.Tests.{by-test}
-use Rattle.pan.proofs.Agreement.{agree-self, agree-back, agree-less, agree-everywhere}
+use Rattle.pan.proofs.Agreement.{agree-self, agree-less, agree-everywhere, agree-both-back, agree-both}
 use Rattle.pan.proofs.Formed.{with-digits}
 use Rattle.pan.proofs.HiddenPlaces.{none-hidden, hidden-formed, same-places, same-hidden}
 use Rattle.pan.proofs.Masking.{equal-masks}
@@ -23,7 +23,7 @@ pub twins-self : (s : List ℕ) → Twins s s
 twins-self s = agree-self _ s
 
 pub twins-back : {s t : List ℕ} → Twins s t → Twins t s
-twins-back {s} {t} w = agree-less _ (λ i k f. and-comm (hiddenDigit s i) (hiddenDigit t i) ∙ f) (agree-back w)
+twins-back {s} {t} w = agree-both-back (hiddenDigit s) (hiddenDigit t) w
 
 -- twins agree outside the hidden places of one of them
 pub twins-outside : {s t : List ℕ} → Twins s t → AgreeOutside (hiddenPlace s) s t
@@ -56,7 +56,7 @@ twins-masked {s} {t} w = equal-masks s t .1 (twins-outside w, twins-hidden w)
 -- whatever digits are put for the hidden digits of a field, the two are twins
 pub twins-made : (s t : List ℕ) → AgreeOutside (hiddenDigit s) s t →
     ((i : ℕ) → i < length s → hiddenDigit s i ≡ true → digit (getD t i 0) ≡ true) → Twins s t
-twins-made s t a h = agree-less _ (λ i k f. by-test (hiddenDigit s i) (λ d. absurd (false≢true (sym f ∙ both d (in-both i k d)))) (λ d. d)) a
+twins-made s t a h = agree-both (hiddenDigit s) (hiddenDigit t) in-both a
   where
     in-both : (i : ℕ) → i < length s → hiddenDigit s i ≡ true → hiddenDigit t i ≡ true
     in-both i k d =

@@ -17,4 +17,8 @@ pub mod Known
 pub mod AtItsPlace
 pub mod FirstFault
 pub mod Pieces
+pub mod WrittenOut
+pub mod Few
+pub mod State
 pub mod FirstFaultOfFile
+pub mod Limits

@@ -8,11 +8,10 @@ use Rattle.refusal.specs.declared.Cause.the-variants.{NoLineEnd, BytesAfterTheE
 use Rattle.refusal.specs.declared.Fault.{Fault}
 use Rattle.refusal.specs.declared.Fault.the-variants.{Nothing, At}
 use Rattle.refusal.specs.declared.Refusal.{Refusal}
-use Rattle.refusal.specs.Rules.{ruleAt, firstBroken, allHold}
-use Rattle.refusal.proofs.Rules.{none-broken}
+use Rattle.refusal.specs.Rules.{ruleAt, firstBroken}
 use Rattle.text.specs.Literal.{sameBytes}
-use Rattle.text.proofs.Alphabets.{both-left, both-right}
 use Rattle.lines.specs.Lines.{endsInCr, withoutLast}
+use Rattle.first_fault.specs.InTurn.{Next, piece, rest}
 use Rattle.payroll_record.specs.Reading.{readingOf}
 use Rattle.payroll_run.specs.declared.stage.Stage.{Stage}
 use Rattle.payroll_run.specs.declared.stage.Stage.the-variants.{Start, BetweenBatches, InBatch, BehindA, BehindB, Ended, Refused}
@@ -24,7 +23,7 @@ use Rattle.payroll_step.specs.Step.{behindOrRefused}
 use Rattle.payroll_file.specs.PayrollFile.{unendedAt, unendedOf, lineOf, linesOf, accepted, endedOf, cutShortOf, endAt, endOf}
 use Rattle.payroll_kept.specs.FirstFault.{ended, endRule, rulesFromWidth}
 use Rattle.payroll_kept.proofs.Going.{Going}
-use Rattle.payroll_kept.specs.FirstFaultOfFile.{Next, piece, rest, nextRules, piecesHold}
+use Rattle.payroll_kept.specs.FirstFaultOfFile.{nextRules}
 use Rattle.payroll_kept.proofs.Steps.{tookRecord}
 use Rattle.payroll_kept.proofs.Refused.{line-same}
 use Rattle.payroll_kept.proofs.AtItsPlace.{by-the-list}
@@ -95,15 +94,6 @@ piece-stops : (st : Running) (p : List ℕ) (cause : Cause) (column : ℕ) → G
 unfolding behindOrRefused
 piece-stops st p cause column going f =
     ap (λ next. next .stage) (piece-judged st p going ∙ ap (behindOrRefused st (readingOf (withoutLast p))) f)
-
--- pieces that keep them
-pub pieces-go-on : (st : Running) (ps : List (List ℕ)) → Going st → piecesHold st ps ≡ true → Going (linesOf st ps)
-unfolding piecesHold linesOf
-pieces-go-on st [] going h = going
-pieces-go-on st (p ∷ ps) going h =
-    let rules = nextRules st (piece p) in
-    let here = both-left (allHold rules) (piecesHold (lineOf st p) ps) h in
-    pieces-go-on (lineOf st p) ps (piece-goes-on st p going (none-broken rules here)) (both-right (allHold rules) (piecesHold (lineOf st p) ps) h)
 
 -- what is left of a file, in turn
 unfoldable pub finished : Running → List Next → PayrollAnswer

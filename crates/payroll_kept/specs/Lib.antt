@@ -4,4 +4,6 @@ pub mod Kept
 pub mod Numbers
 pub mod Accepts
 pub mod FirstFault
+pub mod State
 pub mod FirstFaultOfFile
+pub mod Limits

@@ -4,9 +4,13 @@ use Rattle.card_run.specs.Answer.{answerOf, cardFileRow}
 use Rattle.card_run.specs.declared.answer.CardAnswer.the-variants.{Refused}
 use Rattle.card_run.proofs.FileRows.{same-answer, refusal-told, is-accepted}
 use Rattle.card_kept.proofs.FirstFault.{first-fault-of-record, first-fault-decides}
+use Rattle.card_kept.proofs.Limits.{millionth-record, sum-of-no-trailer}
+use Rattle.card_kept.proofs.State.{state-known}
 use Rattle.payroll_file.proofs.FileRows.{going-stage}
 use Rattle.payroll_kept.proofs.FirstFault as payroll-record
 use Rattle.payroll_kept.proofs.FirstFaultOfFile as payroll-file
+use Rattle.payroll_kept.proofs.Limits.{limits, stays-at-top}
+use Rattle.payroll_kept.proofs.State as payroll-state
 use Rattle.demands.proofs.DaySheets.{sheet-there-and-back, sheet-converted, sheet-of-file}
 use Rattle.demands.proofs.Editions.{refused-outright}
 use Rattle.demands.proofs.Examples.{hold}
@@ -17,6 +21,8 @@ use Rattle.demands.proofs.InChunks.{as-the-whole, after-the-end}
 use Rattle.demands.proofs.LentBuffers.{refused-leaves-alone}
 use Rattle.demands.proofs.MaskTwice.{mask-twice}
 use Rattle.demands.proofs.RulesKept.{card-rules-kept, payroll-rules-kept}
+use Rattle.demands.proofs.SameWay.{same-ways}
+use Rattle.demands.proofs.TwinsMade.{twins-made}
 use Rattle.demands.proofs.demands_hold.Statement.{statement}
 use Rattle.demands.proofs.demands_hold.Tie as tie
 
@@ -27,8 +33,14 @@ returns c =
       record-judged = λ st r going. first-fault-of-record st r (refusal-told (answerOf st) .1 going);
       edition-first = λ edition bad. refused-outright edition (unknown-fault edition bad);
       file-judged = first-fault-decides;
+      state-known = state-known;
+      millionth-record = millionth-record;
+      sum-of-no-trailer = sum-of-no-trailer;
       payroll-record-judged = λ st r e. payroll-record.first-fault-of-record st r (going-stage (st .stage) .0 e);
       payroll-file-judged = payroll-file.first-fault-decides;
+      payroll-state-known = payroll-state.state-known;
+      payroll-too-large = limits;
+      payroll-top = stays-at-top;
       refused-leaves-alone = refused-leaves-alone;
       card-rules-kept = card-rules-kept;
       payroll-rules-kept = payroll-rules-kept;
@@ -42,6 +54,8 @@ returns c =
       in-chunks = as-the-whole;
       after-the-end = after-the-end;
       hidden-digits-reach-nothing = hidden-digits-reach-nothing;
+      twins-made = twins-made;
+      same-way = same-ways;
       edition-retired = λ edition old. refused-outright edition (retired-fault edition old);
       masked-where-hidden = masked-where-hidden;
       mask-twice = mask-twice;
