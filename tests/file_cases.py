@@ -1,17 +1,17 @@
 #!/usr/bin/env python3
-"""The cases of the programs' work, written by hand from document 01 and requests Q-4, Q-5, Q-7, Q-11 and Q-14 of document 02.
+"""The cases of the programs' work, written by hand from document 01, requests Q-4, Q-5, Q-7, Q-11 and Q-14 of document 02, and what was decided of the CSV.
 
     tests/file_cases.py
 
 It writes crates/file_cases/data/, with the cases as steps in own.cases, and crates/file_cases/stdout. A step is its length (4 bytes), a letter that says
 what is to be done (1), and four texts, each behind its length (4): what is printed first, EDITION, FILE and OUT. The lines are written here by hand:
-nothing in this script computes an answer, and no program under test was asked for one; only the hash that stands for the bytes of a long copy is computed,
-from the copy that is made here.
+nothing in this script computes an answer, and no program under test was asked for one; only the hash that stands for the bytes of a long output is computed,
+from the output that is made here.
 
 A case is a line of what was asked, the text that the program says, and then what stands at OUT. A last line `something else is left` would tell of any
 other file.
 """
-from made import SALE, card_file, payroll_file
+from made import ADJUSTMENT, DEBIT, SALE, card_file, payroll_file
 from samples import FILES, sheet
 from stored import CRATES, hashed, number, write_cases
 
@@ -19,6 +19,20 @@ from stored import CRATES, hashed, number, write_cases
 
 # 140,843 bytes: three chunks of 65,536, with a sale cut at each seam.
 LONG = list(card_file([[SALE] * 700]))
+# 136,844 bytes: three chunks, with an adjustment cut at each seam: 700 of them behind one sale, which is record 3.
+LONG_ADJUSTED = list(card_file([[SALE] + [ADJUSTMENT] * 700]))
+# Texts that a row has to guard: with quotes, such as a spreadsheet would compute, and such as only look so. Amounts from 0 to the largest.
+GUARDED = list(card_file([[
+    {**SALE, "gross": 99999999999},
+    {**ADJUSTMENT, "description": b'SAY "NO"', "gross": 0, "discount": 0},
+    {**ADJUSTMENT, "description": b'"' * 30, "gross": 5, "discount": 0},
+    {**ADJUSTMENT, "description": b"=1+1", "gross": 10, "discount": 5},
+    {**ADJUSTMENT, "description": b"+55 11", "gross": 99, "discount": 0},
+    {**ADJUSTMENT, "description": b"-1", "gross": 100, "discount": 0},
+    {**ADJUSTMENT, "description": b"'=1", "gross": 10010, "discount": 10000},
+    {**ADJUSTMENT, "description": b" =1", "gross": 123456, "discount": 1},
+    {**ADJUSTMENT, "store": b"@POSTO, 24H", "description": b"A,B;C\\D", "type": DEBIT, "gross": 99999999999, "discount": 0},
+]]))
 # An L0 of 70,000 bytes.
 WIDE = LONG[0] + b"L0".ljust(70000) + b"\r\n"
 
@@ -37,6 +51,9 @@ DATA = {
     **FILES,
     "long.card": b"".join(LONG),
     "cut.card": b"".join(LONG[:-1]),
+    "long-adjusted.card": b"".join(LONG_ADJUSTED),
+    "cut-adjusted.card": b"".join(LONG_ADJUSTED[:-1]),
+    "guarded.card": b"".join(GUARDED),
     "wide.card": WIDE,
     "long.payroll": b"".join(payroll_file([[(b"ANA SOUZA", 123456)] * 600])),
     "51.sheet": OLD_SHEET[:-1],
@@ -105,6 +122,11 @@ ADJUSTED = (b"ACCEPTED\nRECORDS 11\nBATCHES 2\n" + NO_FORECAST
             + b"SETTLED SALES 2\nSETTLED GROSS 25000\nSETTLED DISCOUNT 625\nSETTLED NET 24375\n")
 LONG_DAY = (b"ACCEPTED\nRECORDS 704\nBATCHES 1\n" + NO_FORECAST
             + b"SETTLED SALES 700\nSETTLED GROSS 7000000\nSETTLED DISCOUNT 175000\nSETTLED NET 6825000\n")
+DAY_ADJUSTED = b"ACCEPTED\nCREDITS 0\nCREDIT NET 0\nDEBITS 0\nDEBIT NET 0\n"
+ADJUSTED_ADJUSTED = b"ACCEPTED\nCREDITS 2\nCREDIT NET 4425\nDEBITS 1\nDEBIT NET 4875\n"
+LONG_ADJUSTED_ADJUSTED = b"ACCEPTED\nCREDITS 700\nCREDIT NET 2047500\nDEBITS 0\nDEBIT NET 0\n"
+# 0, 5, 5, 99, 100, 10 and 123455
+GUARDED_ADJUSTED = b"ACCEPTED\nCREDITS 7\nCREDIT NET 123674\nDEBITS 1\nDEBIT NET 99999999999\n"
 WAGES = b"ACCEPTED\nRECORDS 9\nBATCHES 2\nPAYMENTS 3\nAMOUNT 1301625\n"
 LONG_WAGES = b"ACCEPTED\nRECORDS 604\nBATCHES 1\nPAYMENTS 600\nAMOUNT 74073600\n"
 
@@ -124,6 +146,25 @@ NO_READ = b"the file cannot be read to its end, so give a file that can, and no 
 NOT_OPEN = b"the file cannot be read to its end, so give a file that can, and no folder: Bad file descriptor\n"
 NO_WRITE = b"OUT cannot be written, so give a file's name in a folder where you may write and there is room: No such file or directory\n"
 OUT_NO_FILE = b"OUT is there and no regular file: give a file's name, or one that is not there.\n"
+
+HEADER = b"record,store,original_date,adjustment_date,type,reason,description,gross,discount,net\n"
+ADJUSTED_ROWS = (
+    HEADER
+    + b'4,"POSTO AURORA   ",20231114,20231115,CREDIT,007,"VALOR INFORMADO A MENOR       ",30.00,0.75,29.25\n'
+    + b'8,"POSTO S\xc3O JO\xc3O ",20231114,20231115,DEBIT,012,"VENDA DEVOLVIDA               ",50.00,1.25,48.75\n'
+    + b'9,"POSTO S\xc3O JO\xc3O ",,20231115,CREDIT,030,"B\xd4NUS DO M\xcaS                  ",15.00,0.00,15.00\n')
+GUARDED_ROWS = (
+    HEADER
+    + b'4,"POSTO AURORA   ",20231114,20231115,CREDIT,007,"SAY ""NO""                      ",0.00,0.00,0.00\n'
+    + b'5,"POSTO AURORA   ",20231114,20231115,CREDIT,007,"' + b'""' * 30 + b'",0.05,0.00,0.05\n'
+    + b'6,"POSTO AURORA   ",20231114,20231115,CREDIT,007,"\'=1+1                          ",0.10,0.05,0.05\n'
+    + b'7,"POSTO AURORA   ",20231114,20231115,CREDIT,007,"\'+55 11                        ",0.99,0.00,0.99\n'
+    + b'8,"POSTO AURORA   ",20231114,20231115,CREDIT,007,"\'-1                            ",1.00,0.00,1.00\n'
+    + b'9,"POSTO AURORA   ",20231114,20231115,CREDIT,007,"\'\'=1                           ",100.10,100.00,0.10\n'
+    + b'10,"POSTO AURORA   ",20231114,20231115,CREDIT,007," =1                           ",1234.56,0.01,1234.55\n'
+    + b'11,"\'@POSTO, 24H    ",20231114,20231115,DEBIT,007,"A,B;C\\D                       ",999999999.99,0.00,999999999.99\n')
+LONG_ROWS = HEADER + b"".join(
+    b'%d,"POSTO AURORA   ",20231114,20231115,CREDIT,007,"VALOR INFORMADO A MENOR       ",30.00,0.75,29.25\n' % record for record in range(4, 704))
 
 NO_OUT = b"no OUT\n"
 SAME, NOT_SAME = b"the same bytes\n", b"not the same bytes\n"
@@ -177,7 +218,7 @@ NO_SHEET, NO_VERSION, NO_NUMBERS = refused(15, 0, 0), refused(16, 0, 0), refused
 # ---- The steps -----------------------------------------------------------------------------------------------------------------------------
 
 # What is asked, or done to the folder `work` of a case and to OUT in it (src/step.rt).
-CARD, PAYROLL, MASK, SHEET, READ, CONVERT = b"C", b"P", b"M", b"S", b"R", b"V"
+CARD, PAYROLL, MASK, SHEET, READ, CONVERT, TOLD, ROWS = b"C", b"P", b"M", b"S", b"R", b"V", b"A", b"J"
 FOLDER, PUT, LINES, HEX, HASH, COMPARE, LEAVE = b"F", b"W", b"L", b"X", b"H", b"Q", b"E"
 
 WORK = b"work"
@@ -398,6 +439,38 @@ ask_alone(CONVERT, b"convert, no such file", b"", b"none", NO_FILE, LINES, BEFOR
 ask_alone(CONVERT, b"convert, FILE is a folder", b"", WORK, NO_READ, LINES, BEFORE, before=BEFORE)
 ask_alone(CONVERT, b"convert, no folder for OUT", b"", b"old.sheet", NO_WRITE, LINES, NO_OUT, out=b"work/none/out")
 ask_with_a_folder(CONVERT, b"convert, OUT is a folder", b"old.sheet")
+
+ask(TOLD, b"adjustments, a day", b"2", b"day.card", DAY_ADJUSTED)
+ask(TOLD, b"adjustments, a day with adjustments", b"2", b"adjusted.card", ADJUSTED_ADJUSTED)
+ask(TOLD, b"adjustments, three chunks", b"2", b"long-adjusted.card", LONG_ADJUSTED_ADJUSTED)
+ask(TOLD, b"adjustments, refused", b"2", b"refused.card", REFUSED)
+ask(TOLD, b"adjustments, a day under edition 1", b"1", b"adjusted.card", RETIRED)
+ask(TOLD, b"adjustments, no edition", b"two", b"adjusted.card", NO_NUMBER)
+ask(TOLD, b"adjustments, a folder", b"2", b".", NO_READ)
+
+ask_alone(ROWS, b"adjustments written, a day", b"2", b"day.card", DAY_ADJUSTED, LINES, HEADER)
+ask_alone(ROWS, b"adjustments written, a day with adjustments", b"2", b"adjusted.card", ADJUSTED_ADJUSTED, LINES, ADJUSTED_ROWS)
+ask_alone(ROWS, b"adjustments written, over an OUT", b"2", b"adjusted.card", ADJUSTED_ADJUSTED, LINES, ADJUSTED_ROWS, before=BEFORE)
+ask_alone(ROWS, b"adjustments written, texts to guard", b"2", b"guarded.card", GUARDED_ADJUSTED, LINES, GUARDED_ROWS)
+ask_alone(ROWS, b"adjustments written, three chunks", b"2", b"long-adjusted.card", LONG_ADJUSTED_ADJUSTED, HASH, hash_of(LONG_ROWS))
+# of the masked copy the same rows
+enter()
+ask(MASK, b"adjustments written, masked first", b"2", b"adjusted.card", ADJUSTED, AGAIN)
+ask(ROWS, b"adjustments written, of the masked copy", b"2", AGAIN, ADJUSTED_ADJUSTED, OUT)
+show(LINES, MASKED_ADJUSTED, AGAIN)
+leave(LINES, ADJUSTED_ROWS)
+ask_alone(ROWS, b"adjustments written, refused", b"2", b"refused.card", REFUSED, LINES, NO_OUT)
+ask_alone(ROWS, b"adjustments written, refused over an OUT", b"2", b"refused.card", REFUSED, LINES, BEFORE, before=BEFORE)
+ask_alone(ROWS, b"adjustments written, refused in its last chunk", b"2", b"cut-adjusted.card", refused(12, 705, 0), LINES, NO_OUT)
+ask_alone(ROWS, b"adjustments written, a line of two chunks", b"2", b"wide.card", refused(6, 2, 0), LINES, NO_OUT)
+ask_alone(ROWS, b"adjustments written, edition 3 over an OUT", b"3", b"adjusted.card", BAD_EDITION, LINES, BEFORE, before=BEFORE)
+ask_alone(ROWS, b"adjustments written, edition 1", b"1", b"adjusted.card", RETIRED, LINES, NO_OUT)
+ask_alone(ROWS, b"adjustments written, no edition over an OUT", b"two", b"adjusted.card", NO_NUMBER, LINES, BEFORE, before=BEFORE)
+ask_alone(ROWS, b"adjustments written, empty", b"2", b"empty", refused(12, 1, 0), LINES, NO_OUT)
+ask_alone(ROWS, b"adjustments written, no such file", b"2", b"none", NO_FILE, LINES, BEFORE, before=BEFORE)
+ask_alone(ROWS, b"adjustments written, FILE is a folder", b"2", WORK, NO_READ, LINES, BEFORE, before=BEFORE)
+ask_alone(ROWS, b"adjustments written, no folder for OUT", b"2", b"adjusted.card", NO_WRITE, LINES, NO_OUT, out=b"work/none/out")
+ask_with_a_folder(ROWS, b"adjustments written, OUT is a folder")
 
 
 def main():

@@ -78,9 +78,10 @@ FILES = {
 
 # What a program is run on: its standard input, or its data.
 RUNS = {
+    "adjustments/stdin": "adjusted.card",
     "card/stdin": "day.card",
     "mask/data/day.card": "day.card",
-    "payroll/stdin": "wages.payroll",
+    "payroll/data/wages.payroll": "wages.payroll",
     "sheet/data/day.sheet": "day.sheet",
 }
 

@@ -23,3 +23,5 @@ pub mod Variants
 pub mod Programs
 pub mod Saving
 pub mod Texts
+pub mod AdjustmentRows
+pub mod FileList

@@ -75,6 +75,8 @@ use Rattle.day_sheet.specs.declared.writer.SheetWritten.{SheetWritten}
 use Rattle.day_sheet.specs.declared.writer.SheetWritten.the-variants.{Written, Refused as unwritten}
 use Rattle.edition.specs.declared.Edition.{Edition}
 use Rattle.edition.specs.declared.Edition.the-variants.{Of as editionIs, NoNumber}
+use Rattle.file_list.specs.declared.listed.Listed.{Listed}
+use Rattle.file_list.specs.declared.listed.Listed.the-variants.{Files, Mistake as unlisted}
 use Rattle.program.specs.declared.argument.Argument.{Argument}
 use Rattle.program.specs.declared.argument.Argument.the-variants.{Bytes as given, TooLong as longer}
 use Rattle.files.specs.declared.reading.Got.{Got}
@@ -297,3 +299,7 @@ gotRead (Bytes n) = n + 2
 abbrev pub savedRead : Saved → ℕ
 savedRead kept = 0
 savedRead (Told mistake) = 1
+
+abbrev pub listRead : Listed → ℕ
+listRead (Files tally) = 0
+listRead (unlisted mistake) = 1

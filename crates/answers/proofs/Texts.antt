@@ -10,7 +10,7 @@ use Rattle.wording.specs.Put.{over, overAt, Puts}
 use Rattle.wording.specs.Number.{digitsWithin}
 use Rattle.wording.specs.Line.{wordOf, lineOf, refusedLine}
 use Rattle.program.specs.Reason.{otherReason, reasonOf}
-use Rattle.card_program.specs.Verdict.{ledLine, totalsText, setsText, acceptedText}
+use Rattle.card_program.specs.Verdict.{ledLine, totalsText, setsText, acceptedText, adjustedText}
 use Rattle.payroll_program.specs.Verdict.{acceptedText as payrollText}
 use Rattle.day_sheet.specs.Number.{inBase}
 use Rattle.sheet_program.specs.Verdict.{digitsLine, headingText, version1Text, version2Text}
@@ -21,7 +21,7 @@ one-put : {text before after after' : List ℕ} {at end end' : ℕ} → Puts tex
 one-put p q = (equal (p .ends) (q .ends), equal (p .leaves) (q .leaves))
 
 pub texts : (κ : Lft) → Texts κ
-unfolding over overAt digitsWithin wordOf lineOf refusedLine otherReason reasonOf ledLine totalsText setsText acceptedText payrollText inBase digitsLine headingText version1Text version2Text
+unfolding over overAt digitsWithin wordOf lineOf refusedLine otherReason reasonOf ledLine totalsText setsText acceptedText adjustedText payrollText inBase digitsLine headingText version1Text version2Text
 texts κ =
     record {
       text = λ κs a r r' s s' p q. one-put p q;
@@ -52,6 +52,8 @@ texts κ =
       card-sets-exchanged = (record { ends = refl; leaves = refl }, λ p. told (λ s. getD s 44 0) refl (p .leaves));
       card-four-lines = (record { ends = refl; leaves = refl }, λ p. told (λ n. n) refl (p .ends));
       card-accepted = (record { ends = refl; leaves = refl }, λ p. told (λ n. n) refl (p .ends));
+      adjusted-exchanged = (record { ends = refl; leaves = refl }, λ p. told (λ s. getD s 17 0) refl (p .leaves));
+      adjusted-sales = (record { ends = refl; leaves = refl }, λ p. told (λ n. n) refl (p .ends));
       payroll = λ κs a r r' s s' p q. one-put p q;
       payroll-exchanged = (record { ends = refl; leaves = refl }, λ p. told (λ s. getD s 38 0) refl (p .leaves));
       payroll-refused = (record { ends = refl; leaves = refl }, λ p. told (λ s. getD s 17 0) refl (p .leaves));

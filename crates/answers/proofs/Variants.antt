@@ -1,10 +1,10 @@
 -- The variants of the demands do not hold: each is refuted on a file or a state, by computation.
 use Prim.Native.Nat.{ℕ, suc}
-use mathlib.Core.Path.{_≡_, refl, sym, _∙_}
+use mathlib.Core.Path.{_≡_, refl, sym, _∙_, ap}
 use mathlib.Core.List.{List, [], _∷_, _++_, map}
 use mathlib.Core.Bool.{true, _&&_, false≢true}
 use native.Mathlib.Omega.{arith}
-use lib.ListN.{length, getD, take, drop, replicate}
+use lib.ListN.{length, getD, take, drop, replicate, length-append}
 use lib.Dec.{lit<, lit≤}
 use Rattle.refusal.specs.declared.Cause.the-variants.{EditionRetired, SequenceWrong}
 use Rattle.refusal.specs.Nowhere.{nowhere}
@@ -52,8 +52,13 @@ use Rattle.chunks.specs.Unfinished.{clippedWith}
 use Rattle.chunks.specs.Chunks.{heldBefore, joinedChunks}
 use Rattle.card_stream.specs.Stream.{openOf as streamOpen, behindEnd, withHeld}
 use Rattle.files.specs.declared.reading.Got.the-variants.{End, Failed}
+use Rattle.wording.specs.Put.{over, overAt}
 use Rattle.wording.specs.Number.{digitsWithin}
-use Rattle.wording.specs.Line.{wordOf, refusedLine}
+use Rattle.wording.specs.Line.{wordOf, lineOf, refusedLine}
+use Rattle.adjustment_rows.specs.Fields.{doubled, quoted, amountText, separated}
+use Rattle.adjustment_rows.specs.Row.{header, dayText, typeText, rowOf}
+use Rattle.adjustment_rows.specs.Rows.{rowIn, rowsOf}
+use Rattle.file_list.specs.Line.{fileLine}
 use Rattle.card_program.specs.Outcome.{outcomeAt}
 use Rattle.payroll_record.specs.Field.{numberRules}
 use Rattle.payroll_record.specs.Front.{strayAt}
@@ -89,11 +94,12 @@ use Rattle.demands.specs.Examples.{asWritten, allAsWritten}
 use Rattle.demands.specs.Feeding.{called}
 use Rattle.demands.specs.HiddenDigits.{hiddenAt, hiddenInRecord, hiddenInPieces, hiddenIn}
 use Rattle.demands.specs.HiddenDigitsExample.{oneFile, otherFile, oneCredit}
+use Rattle.demands.specs.RowsOfFile.{plainRows}
 use Rattle.demands.proofs.TwinLaws.{twins-changed}
 use Rattle.answers.specs.CardRun.{state, refusal, oneSale}
 use Rattle.answers.specs.DaySheet.{sheetOf, bothSets}
 use Rattle.demands.specs.ExampleFile.{a0, l9, fileOf}
-use Rattle.answers.specs.Samples.{at, sale, cardFile, twoBatches, fileHeader, batchHeader, payment, batchTrailer, fileTrailer, payrollFile, twoPayrollBatches}
+use Rattle.answers.specs.Samples.{at, sale, cardFile, credit, debit, adjustedFile, twoBatches, fileHeader, batchHeader, payment, batchTrailer, fileTrailer, payrollFile, twoPayrollBatches}
 use Rattle.answers.specs.Variants.{Variants}
 use Rattle.answers.proofs.Observed.{sheetWritten}
 use Rattle.answers.proofs.Told.{told, bit}
@@ -101,6 +107,10 @@ use Rattle.answers.proofs.Told.{told, bit}
 -- no number is one more than itself: 0 is no record of a file
 not-first : (n : ℕ) → 0 ≡ suc n → ⊥
 not-first n e = omega arith
+
+-- nor is a text itself with the header in front
+not-longer : (s : List ℕ) → header ++ s ≡ s → ⊥
+not-longer s e = omega (arith, simp length-append at (ap length e))
 
 -- the example's L9 comes behind three pieces,
 abbrev before-l9 : List (List ℕ)
@@ -111,7 +121,7 @@ abbrev before-trailer : List (List ℕ)
 before-trailer = take 4 (cut payrollFile .pieces)
 
 pub variants : (d : Demands) → Variants d
-unfolding firstBroken allHold piecesHold howMany transactionsIn picked sumOver noLf allNoLf weighed zerosWeighed noneAbove least greatest inPicture setsRight daysRight surelyRight those amountsOf isOneOf allowed holdsOnly valueFrom sameBytes hasByte oneByteOf daysIn isDay isTime whenRules wellFormed leadingZeros hiddenPlaces starWhere inFront cut joined endsInCr withoutLast rejoined inSet dayOrZerosRules cardOrBlanksRules contentRules tableRules recordRules joinedRules adjustmentRules cardPartFound kindNamed rightReading judgedAs readFound answerAt cardFileRow joinedAt rulesOf behind behindOrRefused tookAt closedAt unendedAt linesOf endOf lateAt fedAll answerWithRoom maskedAt maskedInto sheetInto clippedWith heldBefore joinedChunks behindEnd withHeld digitsWithin wordOf refusedLine outcomeAt firstStray numberRules strayAt segmentNamed payrollKindNamed readAs payrollReadFound foundRules dueRules payrollRunRules behindDetailAs payrollBehind payrollBehindOrRefused payrollTookAt payrollUnendedAt payrollLinesOf endedOf cutShortOf endAt payrollRow stateRow inBase valueIn inPlaces fromPlaces digitsRight sheetRow bytesOf withinLimits setAllowed setsAllowed headingAllowed noneOf splitAllowed sheetAllowed sheetAs readOf putAnswer putResult writeAnswer writeResult converted convertAnswer convertResult readRow asWritten allAsWritten called hiddenAt hiddenInPieces
+unfolding firstBroken allHold piecesHold howMany transactionsIn picked sumOver noLf allNoLf weighed zerosWeighed noneAbove least greatest inPicture setsRight daysRight surelyRight those amountsOf isOneOf allowed holdsOnly valueFrom sameBytes hasByte oneByteOf daysIn isDay isTime whenRules wellFormed leadingZeros hiddenPlaces starWhere inFront cut joined endsInCr withoutLast rejoined inSet dayOrZerosRules cardOrBlanksRules contentRules tableRules recordRules joinedRules adjustmentRules cardPartFound kindNamed rightReading judgedAs readFound answerAt cardFileRow joinedAt rulesOf behind behindOrRefused tookAt closedAt unendedAt linesOf endOf lateAt fedAll answerWithRoom maskedAt maskedInto sheetInto clippedWith heldBefore joinedChunks behindEnd withHeld over overAt digitsWithin wordOf lineOf refusedLine doubled quoted amountText separated dayText typeText rowOf rowIn rowsOf plainRows fileLine outcomeAt firstStray numberRules strayAt segmentNamed payrollKindNamed readAs payrollReadFound foundRules dueRules payrollRunRules behindDetailAs payrollBehind payrollBehindOrRefused payrollTookAt payrollUnendedAt payrollLinesOf endedOf cutShortOf endAt payrollRow stateRow inBase valueIn inPlaces fromPlaces digitsRight sheetRow bytesOf withinLimits setAllowed setsAllowed headingAllowed noneOf splitAllowed sheetAllowed sheetAs readOf putAnswer putResult writeAnswer writeResult converted convertAnswer convertResult readRow asWritten allAsWritten called hiddenAt hiddenInPieces
 variants d =
     let l9-comes : ComesBehind (rulesBehind 2) cardFile before-l9 (withCr l9) = record { later = drop 4 (cut cardFile .pieces); split = refl; all-hold = refl } in
     let trailer-comes : ComesBehind payrollRulesBehind payrollFile before-trailer (withCr fileTrailer) = record { later = []; split = refl; all-hold = refl } in
@@ -167,11 +177,20 @@ variants d =
           told sheetWritten refl (wrong (bytesOf (sheetOf 1 9750)) (sheetOf 1 9750) refl (replicate 81 0) _ _ (record { answers = refl; leaves = refl }) .answers);
       from-two-and-back = λ wrong. told (λ s. getD s 52 0) refl (wrong (bytesOf bothSets) refl);
       both-sets-added = λ wrong. told (λ s. getD s 4 0) refl (wrong 2 cardFile (d .card-rules-kept .exactly 2 cardFile .0 refl));
+      rows-alone = λ wrong.
+          let kept = d .card-rules-kept .exactly 2 adjustedFile .0 refl in
+          not-longer _ (sym (d .rows-of-file .rows 2 adjustedFile kept) ∙ wrong 2 adjustedFile kept);
+      rows-as-many = λ wrong. told (λ n. n) refl (wrong 2 adjustedFile (d .card-rules-kept .exactly 2 adjustedFile .0 refl));
+      rows-no-card = λ wrong. told (λ s. getD s 50 0) refl (wrong 3 credit (at 80 "X" credit) (record { before = refl; behind = refl }));
+      rows-no-byte-lost = λ wrong. told (λ s. getD s 0 0) refl (wrong (ascii "a") (ascii "b") refl);
+      one-line-each = λ wrong. told (λ ps. getD (getD ps 0 []) 0 0) refl (wrong [] (ascii "\n"));
       fed-as-whole = λ wrong. told (λ row. row .refusal .number) refl (wrong 2 (ascii "A0\n" ∷ []) .closed);
       refused-for-good = λ wrong. told (λ row. row .refusal .number) refl (wrong (openOf 2) (refusal SequenceWrong 3 194) []);
       after-accepted-close = λ wrong. told (λ row. row .refusal .number) refl (wrong (state InBatch 3 oneSale) .close-more);
       one-past-the-last = λ wrong. told (λ n. n) refl (wrong 3 (sale ∷ []));
       in-chunks = λ wrong. told (λ row. row .refusal .number) refl (wrong 2 []);
+      csv-chunk-by-chunk = λ wrong. told length refl (wrong []);
+      on-the-way = λ wrong. told (λ n. n) refl (wrong 2 (ascii "A\n" ∷ []));
       after-the-end = λ wrong. told (λ row. row .refusal .number) refl (wrong (streamOpen 2) 65 []);
       hidden-digits-reach-nothing = λ wrong. told (λ row. bit (row .accepted)) refl (wrong 2 cardFile (fileOf (at 77 "00000009751" sale)) refl);
       masks-lines = λ wrong.
@@ -189,6 +208,17 @@ variants d =
           told (λ s. getD s 0 0) refl
           (wrong 2 [] []
           (record { more-of-one = []; more-of-other = []; files = record { same-length = refl; same-byte = λ i k f. refl }; equally-much = refl }) End (Failed 0));
+      listed = λ wrong.
+          told (λ s. getD s 29 0) refl
+          (wrong 2 [] [] (record { more-of-one = []; more-of-other = []; files = record { same-length = refl; same-byte = λ i k f. refl }; equally-much = refl }) End
+          (ascii "a") (ascii "b"));
+      csv = λ wrong. told (λ s. getD s 124 0) refl (wrong (withCr credit ++ ascii "\n") (withCr debit ++ ascii "\n") refl);
+      puts-rows = λ wrong.
+          told (λ s. getD s 38 0) refl
+          (wrong 3 (withCr credit ++ ascii "\n") (withCr debit ++ ascii "\n") (replicate 39 0) refl _ _ _ _
+          (record { counts = refl; puts = record { ends = refl; leaves = refl } }) (record { counts = refl; puts = record { ends = refl; leaves = refl } }));
+      rows-so-far = λ wrong.
+          told length refl (wrong [] ((withCr credit ++ ascii "\n") ∷ []) (withCr credit ++ ascii "\n") [] (record { same-length = refl; same-byte = λ i k f. refl }));
       record-twins-made = λ wrong.
           let other = at 97 "A" sale in
           let agree = equal-stars (λ i. hiddenInRecord sale i && digit (getD sale i 0)) sale other .0 refl in

@@ -24,6 +24,8 @@ use Rattle.answers.specs.Variants.{Variants}
 use Rattle.answers.specs.Programs.{Programs}
 use Rattle.answers.specs.Saving.{Saving}
 use Rattle.answers.specs.Texts.{Texts}
+use Rattle.answers.specs.AdjustmentRows.{AdjustmentRows}
+use Rattle.answers.specs.FileList.{FileList}
 use Rattle.demands.specs.Demands.{Demands}
 
 pub record HeldToAccount : Type 0 where
@@ -50,3 +52,5 @@ pub record HeldToAccount : Type 0 where
   pub programs : (κ : Lft) (fd : ℤ) → Programs κ fd
   pub saving : (κ : Lft) (fd : ℤ) → Saving κ fd
   pub texts : (κ : Lft) → Texts κ
+  pub adjustment-rows : (κ : Lft) → AdjustmentRows κ
+  pub file-list : (κ : Lft) → FileList κ

@@ -23,4 +23,6 @@ pub mod Variants
 pub mod Programs
 pub mod Saving
 pub mod Texts
+pub mod AdjustmentRows
+pub mod FileList
 pub mod HeldToAccount

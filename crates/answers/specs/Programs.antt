@@ -36,15 +36,19 @@ use Rattle.program.proofs.argument.read_three.Reads as ReadThree
 use Rattle.card_program.proofs.outcome.is_decided.Reads as IsDecided
 use Rattle.card_program.proofs.outcome.is_accepted.Reads as IsAccepted
 use Rattle.card_program.proofs.outcome.outcome_at.Reads as OutcomeAt
+use Rattle.card_program.specs.declared.verdict.Lines.the-variants.{Sales}
 use Rattle.card_program.proofs.check.check.Reads as Check
+use Rattle.card_program.proofs.check.check_file.Reads as CheckFile
 use Rattle.card_program.proofs.work.work.Reads as Work
-use Rattle.mask_program.proofs.work.work.Reads as Mask
+use Rattle.card_copy.specs.declared.output.Output.the-variants.{MaskedCopy, Adjustments}
+use Rattle.card_copy.proofs.work.work.Reads as Copy
 use Rattle.sheet_program.proofs.work.work.Reads as Write
 use Rattle.sheet_program.proofs.read.read.Reads as ReadSheet
 use Rattle.sheet_program.proofs.convert.convert.Reads as ConvertSheet
 use Rattle.payroll_program.proofs.outcome.is_decided.Reads as IsDecidedPayroll
 use Rattle.payroll_program.proofs.outcome.outcome_at.Reads as PayrollOutcomeAt
 use Rattle.payroll_program.proofs.check.check.Reads as CheckPayroll
+use Rattle.payroll_program.proofs.check.check_file.Reads as CheckPayrollFile
 use Rattle.answers.specs.Held.{OneAnswer, Tells, lent, one, two, three}
 use Rattle.answers.specs.Samples.{at, sale, cardFile}
 use Rattle.answers.specs.Totals.{amounts, settled}
@@ -73,8 +77,8 @@ arguments edition = (lent (ascii edition), (lent (ascii "a"), (lent (ascii "b"),
 pub record Programs (κ : Lft) (fd : ℤ) : Type 0 where
   -- document 01's example of what is printed: "A file of A0, L0, one cash CV with 10000, 250, 9750, L9, A9" prints seven lines, and by document 02 "eight lines in place of four":
   -- eleven; "With CV numbered 000004 it prints one line"
-  pub eleven-lines : verdictText (checkOf 2 cardFile) ≡ ascii elevenLines
-  pub one-line : verdictText (checkOf 2 (fileOf (at 194 "000004" sale))) ≡ ascii "REFUSED 9 RECORD 3 COLUMN 194\n"
+  pub eleven-lines : verdictText Sales (checkOf 2 cardFile) ≡ ascii elevenLines
+  pub one-line : verdictText Sales (checkOf 2 (fileOf (at 194 "000004" sale))) ≡ ascii "REFUSED 9 RECORD 3 COLUMN 194\n"
   -- `argument_of`: one that is too long taken for an empty one; any argument taken for one that is too long
   pub argument-of : OneAnswer ArgumentOf.Post
   pub argument-of-long : Tells (ArgumentOf.Post tt) (0, (36, tt)) TooLong (given 0)
@@ -98,15 +102,23 @@ pub record Programs (κ : Lft) (fd : ℤ) : Type 0 where
   -- `check`: totals that no file has; an edition that the program chose itself
   pub check-totals : Tells (Check.Post tt) (2, (fd, tt)) (Answer (accepted 5 1 oneSale)) (Answer madeUp)
   pub check-edition : Tells (Check.Post tt) (3, (fd, tt)) (Answer unknownEdition) (Answer (accepted 5 1 oneSale))
-  -- `work` of `card`, `mask` and `sheet`: always edition 2; edition 1 not known, or still read; a word that is no number taken for one; a number told as none
+  -- `check_file`: the same, of a card file and of a payroll file by its name
+  pub check-file-totals : Tells (CheckFile.Post (one κ)) (2, (lent (ascii "a"), tt)) (Answer (accepted 5 1 oneSale)) (Answer madeUp)
+  pub check-file-edition : Tells (CheckFile.Post (one κ)) (3, (lent (ascii "a"), tt)) (Answer unknownEdition) (Answer (accepted 5 1 oneSale))
+  pub check-file-amount :
+      Tells (CheckPayrollFile.Post (one κ)) (lent (ascii "a"), tt) (answer-payroll (paid 5 10000)) (answer-payroll (paid 5 10000000000000000000))
+  pub check-file-records : Tells (CheckPayrollFile.Post (one κ)) (lent (ascii "a"), tt) (answer-payroll (paid 5 10000)) (answer-payroll (paid 1000000 10000))
+  -- `work` of `card`, of `mask` and `adjustments`, and of `sheet`: always edition 2; edition 1 not known, or still read; a word that is no number taken for one; a number told as none
   pub work-edition : Tells (Work.Post (one κ)) (lent (ascii "3"), (fd, tt)) (Answer unknownEdition) (Answer (accepted 5 1 oneSale))
   pub work-retired : Tells (Work.Post (one κ)) (lent (ascii "1"), (fd, tt)) (Answer retiredEdition) (Answer unknownEdition)
   pub work-word : Tells (Work.Post (one κ)) (lent (ascii "two"), (fd, tt)) (Mistake EditionNoNumber) (Answer (accepted 5 1 oneSale))
   pub work-number : Tells (Work.Post (one κ)) (lent (ascii "2"), (fd, tt)) (Answer (accepted 5 1 oneSale)) (Mistake EditionNoNumber)
-  pub mask-edition : Tells (Mask.Post (three κ)) (arguments "3") (Answer unknownEdition) (Answer (accepted 5 1 oneSale))
-  pub mask-retired : Tells (Mask.Post (three κ)) (arguments "1") (Answer retiredEdition) (Answer (accepted 5 1 oneSale))
-  pub mask-word : Tells (Mask.Post (three κ)) (arguments "two") (Mistake EditionNoNumber) (Answer (accepted 5 1 oneSale))
-  pub mask-totals : Tells (Mask.Post (three κ)) (arguments "2") (Answer (accepted 5 1 oneSale)) (Answer madeUp)
+  pub mask-edition : Tells (Copy.Post (three κ)) (MaskedCopy, arguments "3") (Answer unknownEdition) (Answer (accepted 5 1 oneSale))
+  pub mask-retired : Tells (Copy.Post (three κ)) (MaskedCopy, arguments "1") (Answer retiredEdition) (Answer (accepted 5 1 oneSale))
+  pub mask-word : Tells (Copy.Post (three κ)) (MaskedCopy, arguments "two") (Mistake EditionNoNumber) (Answer (accepted 5 1 oneSale))
+  pub mask-totals : Tells (Copy.Post (three κ)) (MaskedCopy, arguments "2") (Answer (accepted 5 1 oneSale)) (Answer madeUp)
+  pub rows-edition : Tells (Copy.Post (three κ)) (Adjustments, arguments "3") (Answer unknownEdition) (Answer (accepted 5 1 oneSale))
+  pub rows-word : Tells (Copy.Post (three κ)) (Adjustments, arguments "two") (Mistake EditionNoNumber) (Answer (accepted 5 1 oneSale))
   pub write-edition : Tells (Write.Post (three κ)) (arguments "3") (Answer unknownEdition) (Answer (accepted 5 1 oneSale))
   pub write-retired : Tells (Write.Post (three κ)) (arguments "1") (Answer retiredEdition) (Answer (accepted 5 1 oneSale))
   pub write-word : Tells (Write.Post (three κ)) (arguments "two") (Mistake EditionNoNumber) (Answer (accepted 5 1 oneSale))

@@ -4,14 +4,14 @@ use Prim.Native.Nat.{ℕ, _-_}
 use Prim.Native.String.{String}
 use mathlib.Core.List.{List, [], _++_}
 use lib.IntN.{pos}
-use lib.ListN.{length, replicate}
+use lib.ListN.{length, take, replicate}
 use base.Fml.{Lft}
 use denote.Ref.{now}
 use Rattle.text.specs.Literal.{ascii}
 use Rattle.refusal.specs.declared.Refusal.{Refusal}
 use Rattle.refusal.specs.declared.Cause.the-variants.{SequenceWrong}
 use Rattle.totals.specs.declared.amounts.Totals.{Totals}
-use Rattle.card_run.specs.declared.answer.CardAnswer.the-variants.{Refused}
+use Rattle.card_run.specs.declared.answer.CardAnswer.the-variants.{Accepted, Refused}
 use Rattle.payroll_file.specs.declared.answer.PayrollAnswer.the-variants.{Accepted as paid, Refused as unpaid}
 use Rattle.day_sheet.specs.declared.reader.SheetRead.the-variants.{Read as sheet-read}
 use Rattle.program.specs.declared.mistake.Mistake.{Mistake as Told}
@@ -23,6 +23,7 @@ use Rattle.payroll_program.specs.declared.outcome.PayrollOutcome.{PayrollOutcom
 use Rattle.payroll_program.specs.declared.outcome.PayrollOutcome.the-variants.{Answer as answer-payroll, Mistake as mistake-payroll}
 use Rattle.sheet_program.specs.declared.read.SheetOutcome.{SheetOutcome}
 use Rattle.sheet_program.specs.declared.read.SheetOutcome.the-variants.{Read as read-sheet, Mistake as mistake-sheet}
+use Rattle.card_program.specs.declared.verdict.Lines.the-variants.{Sales, Adjustments}
 use Rattle.wording.proofs.put.text.Reads as PutText
 use Rattle.wording.proofs.put.number.Reads as PutNumber
 use Rattle.wording.proofs.line.line.Reads as PutLine
@@ -39,7 +40,7 @@ use Rattle.sheet_program.proofs.verdict.descriptor.Reads as SheetDescriptor
 use Rattle.answers.specs.Held.{OneAnswer, OneOutcome, Tells, TellsOutcome, lent, one, two}
 use Rattle.answers.specs.Samples.{room}
 use Rattle.answers.specs.Totals.{amounts, totalsOf}
-use Rattle.answers.specs.CardRun.{refusal, oneSale, accepted}
+use Rattle.answers.specs.CardRun.{refusal, oneSale, adjusted, numbersWith, accepted}
 use Rattle.answers.specs.DaySheet.{sheetOf, bothSets}
 
 -- a text at the start of a buffer of dots
@@ -60,6 +61,10 @@ example = Answer (accepted 5 1 oneSale)
 abbrev pub elevenLines : String
 elevenLines =
     "ACCEPTED\nRECORDS 5\nBATCHES 1\nFORECAST SALES 0\nFORECAST GROSS 0\nFORECAST DISCOUNT 0\nFORECAST NET 0\nSETTLED SALES 1\nSETTLED GROSS 10000\nSETTLED DISCOUNT 250\nSETTLED NET 9750\n"
+
+-- with two credits and a debit
+abbrev exampleAdjusted : CardOutcome
+exampleAdjusted = Answer (Accepted (numbersWith 7 1 oneSale (adjusted 2 4425) (adjusted 1 4875)))
 
 abbrev lateCard : CardOutcome
 lateCard = Answer (Refused late)
@@ -159,23 +164,32 @@ pub record Texts (κ : Lft) : Type 0 where
       (record { answer = 143; exit = (oneSale, (lent (shown 147 "FORECAST SALES 0\nFORECAST GROSS 0\nFORECAST DISCOUNT 0\nFORECAST NET 0\nSETTLED SALES 1\nSETTLED GROSS 10000\nSETTLED DISCOUNT 250\nSETTLED NET 9750\n"), (0, tt))) })
       (record { answer = 74; exit = (oneSale, (lent (shown 147 "SETTLED SALES 1\nSETTLED GROSS 10000\nSETTLED DISCOUNT 250\nSETTLED NET 9750\n"), (0, tt))) })
   -- `card_program::put_outcome`: records and batches exchanged; forecast and settled exchanged; both in four lines; a refused file accepted
-  pub card : OneOutcome (λ κs s. now (s .1 .0)) PutOutcome.Post
+  pub card : OneOutcome (λ κs s. now (s .1 .1 .0)) PutOutcome.Post
   pub card-exchanged :
-      TellsOutcome (PutOutcome.Post (one κ)) (example, (lent (room 176), (0, tt)))
-      (record { answer = 172; exit = (example, (lent (shown 176 elevenLines), (0, tt))) })
-      (record { answer = 172; exit = (example, (lent (shown 176 "ACCEPTED\nRECORDS 1\nBATCHES 5\nFORECAST SALES 0\nFORECAST GROSS 0\nFORECAST DISCOUNT 0\nFORECAST NET 0\nSETTLED SALES 1\nSETTLED GROSS 10000\nSETTLED DISCOUNT 250\nSETTLED NET 9750\n"), (0, tt))) })
+      TellsOutcome (PutOutcome.Post (one κ)) (Sales, (example, (lent (room 176), (0, tt))))
+      (record { answer = 172; exit = (Sales, (example, (lent (shown 176 elevenLines), (0, tt)))) })
+      (record { answer = 172; exit = (Sales, (example, (lent (shown 176 "ACCEPTED\nRECORDS 1\nBATCHES 5\nFORECAST SALES 0\nFORECAST GROSS 0\nFORECAST DISCOUNT 0\nFORECAST NET 0\nSETTLED SALES 1\nSETTLED GROSS 10000\nSETTLED DISCOUNT 250\nSETTLED NET 9750\n"), (0, tt)))) })
   pub card-sets-exchanged :
-      TellsOutcome (PutOutcome.Post (one κ)) (example, (lent (room 176), (0, tt)))
-      (record { answer = 172; exit = (example, (lent (shown 176 elevenLines), (0, tt))) })
-      (record { answer = 172; exit = (example, (lent (shown 176 "ACCEPTED\nRECORDS 5\nBATCHES 1\nFORECAST SALES 1\nFORECAST GROSS 10000\nFORECAST DISCOUNT 250\nFORECAST NET 9750\nSETTLED SALES 0\nSETTLED GROSS 0\nSETTLED DISCOUNT 0\nSETTLED NET 0\n"), (0, tt))) })
+      TellsOutcome (PutOutcome.Post (one κ)) (Sales, (example, (lent (room 176), (0, tt))))
+      (record { answer = 172; exit = (Sales, (example, (lent (shown 176 elevenLines), (0, tt)))) })
+      (record { answer = 172; exit = (Sales, (example, (lent (shown 176 "ACCEPTED\nRECORDS 5\nBATCHES 1\nFORECAST SALES 1\nFORECAST GROSS 10000\nFORECAST DISCOUNT 250\nFORECAST NET 9750\nSETTLED SALES 0\nSETTLED GROSS 0\nSETTLED DISCOUNT 0\nSETTLED NET 0\n"), (0, tt)))) })
   pub card-four-lines :
-      TellsOutcome (PutOutcome.Post (one κ)) (example, (lent (room 176), (0, tt)))
-      (record { answer = 172; exit = (example, (lent (shown 176 elevenLines), (0, tt))) })
-      (record { answer = 71; exit = (example, (lent (shown 176 "ACCEPTED\nRECORDS 5\nBATCHES 1\nSALES 1\nGROSS 10000\nDISCOUNT 250\nNET 9750\n"), (0, tt))) })
+      TellsOutcome (PutOutcome.Post (one κ)) (Sales, (example, (lent (room 176), (0, tt))))
+      (record { answer = 172; exit = (Sales, (example, (lent (shown 176 elevenLines), (0, tt)))) })
+      (record { answer = 71; exit = (Sales, (example, (lent (shown 176 "ACCEPTED\nRECORDS 5\nBATCHES 1\nSALES 1\nGROSS 10000\nDISCOUNT 250\nNET 9750\n"), (0, tt)))) })
   pub card-accepted :
-      TellsOutcome (PutOutcome.Post (one κ)) (lateCard, (lent (room 32), (0, tt)))
-      (record { answer = 30; exit = (lateCard, (lent (shown 32 "REFUSED 9 RECORD 3 COLUMN 194\n"), (0, tt))) })
-      (record { answer = 9; exit = (lateCard, (lent (shown 32 "ACCEPTED\n"), (0, tt))) })
+      TellsOutcome (PutOutcome.Post (one κ)) (Sales, (lateCard, (lent (room 32), (0, tt))))
+      (record { answer = 30; exit = (Sales, (lateCard, (lent (shown 32 "REFUSED 9 RECORD 3 COLUMN 194\n"), (0, tt)))) })
+      (record { answer = 9; exit = (Sales, (lateCard, (lent (shown 32 "ACCEPTED\n"), (0, tt)))) })
+  -- of its adjustments: credits and debits exchanged; the lines of its sales
+  pub adjusted-exchanged :
+      TellsOutcome (PutOutcome.Post (one κ)) (Adjustments, (exampleAdjusted, (lent (room 64), (0, tt))))
+      (record { answer = 59; exit = (Adjustments, (exampleAdjusted, (lent (shown 64 "ACCEPTED\nCREDITS 2\nCREDIT NET 4425\nDEBITS 1\nDEBIT NET 4875\n"), (0, tt)))) })
+      (record { answer = 59; exit = (Adjustments, (exampleAdjusted, (lent (shown 64 "ACCEPTED\nCREDITS 1\nCREDIT NET 4875\nDEBITS 2\nDEBIT NET 4425\n"), (0, tt)))) })
+  pub adjusted-sales :
+      TellsOutcome (PutOutcome.Post (one κ)) (Adjustments, (exampleAdjusted, (lent (room 64), (0, tt))))
+      (record { answer = 59; exit = (Adjustments, (exampleAdjusted, (lent (shown 64 "ACCEPTED\nCREDITS 2\nCREDIT NET 4425\nDEBITS 1\nDEBIT NET 4875\n"), (0, tt)))) })
+      (record { answer = 64; exit = (Adjustments, (exampleAdjusted, (lent (take 64 (ascii elevenLines)), (0, tt)))) })
   -- `payroll_program::put_outcome`: payments and amount exchanged; record and column exchanged
   pub payroll : OneOutcome (λ κs s. now (s .1 .0)) PutPayroll.Post
   pub payroll-exchanged :

@@ -1,6 +1,6 @@
 -- What the demands are held to: of each a variant with a hypothesis dropped or a definition changed, which does not hold. Each names the field that it
 -- is a variant of.
-use Prim.Native.Nat.{ℕ, _+_, _^_, _≤_}
+use Prim.Native.Nat.{ℕ, suc, _+_, _^_, _≤_}
 use mathlib.Core.Path.{_≡_}
 use mathlib.Core.Logic.{_↔_}
 use mathlib.Core.List.{List, [], _∷_, _++_, map}
@@ -17,8 +17,10 @@ use Rattle.pan.specs.AgreeOutside.{AgreeOutside}
 use Rattle.pan.specs.Masked.{starWhere}
 use Rattle.lines.specs.Lines.{allNoLf, cut, withoutLast}
 use Rattle.chunks.specs.Chunks.{joinedChunks}
+use Rattle.wording.specs.Shown.{shownAs}
 use Rattle.first_fault.specs.InTurn.{recordsIn, piecesHold, ComesBehind}
 use Rattle.edition.specs.Known.{current, retired, known}
+use Rattle.card_content.specs.EqualOutside.{EqualOutside}
 use Rattle.card_record.specs.declared.kind.Kind.{Kind}
 use Rattle.card_record.specs.declared.kind.KindFound.the-variants.{Known}
 use Rattle.card_record.specs.Kind.{kindOf}
@@ -26,12 +28,12 @@ use Rattle.card_record.specs.Reading.{readingOf}
 use Rattle.card_quick.specs.Quick.{passesQuick}
 use Rattle.card_run.specs.declared.running.Running.{Running}
 use Rattle.card_run.specs.declared.answer.CardAnswer.{CardAnswer}
-use Rattle.card_run.specs.Running.{openOf}
+use Rattle.card_run.specs.Running.{openOf, nextNumber}
 use Rattle.card_run.specs.Answer.{answerOf, goingOnRow, refusedRow, cardFileRow}
 use Rattle.card_file.specs.Feeding.{fedOf}
 use Rattle.card_file.specs.CardFile.{checkOf}
 use Rattle.card_kept.specs.FirstFault.{FirstFaultOfRecord, rulesBehind, FirstFaultDecides}
-use Rattle.card_kept.specs.Kept.{Kept, added, taken, salesOf}
+use Rattle.card_kept.specs.Kept.{Kept, recordsOf, added, taken, salesOf}
 use Rattle.card_kept.specs.Limits.{beforeJoined, inBatch, NoSumIsRight, SalesOf}
 use Rattle.card_kept.specs.Numbers.{TotalsOf}
 use Rattle.card_kept.specs.State.{transactionsIn, plainBatch, plainState, stateBehind, StateKnown}
@@ -42,6 +44,13 @@ use Rattle.card_mask.specs.Masked.{maskedFile, MasksLines}
 use Rattle.card_stream.specs.declared.Stream.{Stream}
 use Rattle.card_stream.specs.Stream as stream
 use Rattle.files.specs.declared.reading.Got.{Got}
+use Rattle.adjustment_rows.specs.declared.rows.Rows.{Rows}
+use Rattle.adjustment_rows.specs.Fields.{quoted}
+use Rattle.adjustment_rows.specs.Row.{rowOf}
+use Rattle.adjustment_rows.specs.Rows.{csvOf, PutsRows}
+use Rattle.file_list.specs.Line.{fileLine}
+use Rattle.card_program.specs.declared.verdict.Lines.the-variants.{Sales}
+use Rattle.card_program.specs.Listing.{wordsOf}
 use Rattle.card_program.specs.Outcome.{outcomeAt}
 use Rattle.card_program.specs.Verdict.{verdictText, outcomeText}
 use Rattle.payroll_record.specs.declared.kind.Kind.the-variants.{BatchTrailer, FileTrailer}
@@ -70,8 +79,9 @@ use Rattle.demands.specs.Examples.{agrees, allAsWritten}
 use Rattle.demands.specs.Feeding.{FedAsWhole, RefusedForGood, AfterAcceptedClose, OnePastTheLast, afterTheEnd}
 use Rattle.demands.specs.HiddenDigits.{hiddenInRecord, hiddenIn, TwinRecords, TwinFiles}
 use Rattle.demands.specs.HiddenDigitsExample.{oneFile, otherFile, oneCredit, otherCredit}
-use Rattle.demands.specs.InChunks.{cardTaken, cardInChunks, copiedInChunks}
+use Rattle.demands.specs.InChunks.{cardTaken, cardInChunks, copiedInChunks, tabledInChunks}
 use Rattle.demands.specs.MaskTwice.{FileAndMasked}
+use Rattle.demands.specs.RowsOfFile.{plainRows}
 use Rattle.demands.specs.SameWay.{waysOf, sizesOf}
 use Rattle.demands.specs.ToldAlike.{ComeAlike}
 use Rattle.demands.specs.TwinsMade.{DigitsChanged}
@@ -167,6 +177,15 @@ pub record Variants (d : Demands) : Type 0 where
   pub both-sets-added : NotSo (d .sheet-of-file .both-sets-added)
       ((edition : ℕ) (bytes : List ℕ) (kept : Kept edition bytes) →
       bytesOf (sheetFrom edition (cardFileRow (checkOf edition bytes) .numbers)) ≡ bytesOf (plainSheet1 edition (kept .file)))
+  -- no header line; the debits alone counted; records that differ in the description; texts of the same length
+  pub rows-alone : NotSo (d .rows-of-file .rows)
+      ((edition : ℕ) (file : List ℕ) (kept : Kept edition file) → csvOf file ≡ plainRows 1 (recordsOf (kept .file)))
+  pub rows-as-many : NotSo (d .rows-of-file .as-many)
+      ((edition : ℕ) (file : List ℕ) → Kept edition file → length (cut (csvOf file) .pieces) ≡ suc (cardFileRow (checkOf edition file) .numbers .debits .count))
+  pub rows-no-card : NotSo (d .rows-of-file .no-card) ((number : ℕ) (r s : List ℕ) → EqualOutside 79 109 r s → rowOf number r ≡ rowOf number s)
+  pub rows-no-byte-lost : NotSo (d .rows-of-file .no-byte-lost) ((s t : List ℕ) → length (quoted s) ≡ length (quoted t) → s ≡ t)
+  -- the name as it is
+  pub one-line-each : NotSo (d .one-line-each) ((words name : List ℕ) → cut (fileLine words name) .pieces ≡ (shownAs 32 words ++ name) ∷ [])
   -- of records with an LF too
   pub fed-as-whole : NotSo (d .fed-as-whole) ((edition : ℕ) (records : List (List ℕ)) → FedAsWhole edition records)
   -- of a state that is not refused too
@@ -177,6 +196,11 @@ pub record Variants (d : Demands) : Type 0 where
   -- before the end
   pub in-chunks : NotSo (d .in-chunks)
       ((edition : ℕ) (chunks : List (List ℕ)) → cardFileRow (stream.answerOf (cardTaken edition chunks)) ≡ cardFileRow (checkOf edition (joinedChunks chunks)))
+  -- each chunk a file of its own
+  pub csv-chunk-by-chunk : NotSo (d .in-chunks .csv) ((chunks : List (List ℕ)) → joinedChunks (map csvOf chunks) ≡ csvOf (joinedChunks chunks))
+  -- of a file that is not accepted too
+  pub on-the-way : NotSo (d .in-chunks .on-the-way)
+      ((edition : ℕ) (chunks : List (List ℕ)) → nextNumber (cardTaken edition chunks .state) ≡ tabledInChunks chunks .number)
   pub after-the-end : NotSo (d .after-the-end)
       ((s : Stream) (b : ℕ) (chunk : List ℕ) → cardFileRow (stream.answerOf (stream.takenOf s (b ∷ chunk))) ≡ refusedRow (afterTheEnd (s .state)))
   -- of any two files of the same length
@@ -193,10 +217,21 @@ pub record Variants (d : Demands) : Type 0 where
       ((cs ds : List (List ℕ)) → ComeAlike TwinFiles cs ds → copiedInChunks cs .waiting ≡ copiedInChunks ds .waiting)
   pub taken-so-far : NotSo (d .hidden-digits-reach-nothing .taken-so-far)
       ((edition : ℕ) (cs ds : List (List ℕ)) (more-of-one more-of-other : List ℕ) → TwinFiles (joinedChunks cs ++ more-of-one) (joinedChunks ds ++ more-of-other) →
-      verdictText (checkOf edition (joinedChunks cs)) ≡ verdictText (checkOf edition (joinedChunks ds)))
+      verdictText Sales (checkOf edition (joinedChunks cs)) ≡ verdictText Sales (checkOf edition (joinedChunks ds)))
   pub printed : NotSo (d .hidden-digits-reach-nothing .printed)
       ((edition : ℕ) (cs ds : List (List ℕ)) → ComeAlike TwinFiles cs ds → (got other : Got) →
-      outcomeText (outcomeAt got (cardTaken edition cs)) ≡ outcomeText (outcomeAt other (cardTaken edition ds)))
+      outcomeText Sales (outcomeAt got (cardTaken edition cs)) ≡ outcomeText Sales (outcomeAt other (cardTaken edition ds)))
+  -- under another name; the rows of any two files of the same length, of a file and put; of not equally much of both
+  pub listed : NotSo (d .hidden-digits-reach-nothing .listed)
+      ((edition : ℕ) (cs ds : List (List ℕ)) → ComeAlike TwinFiles cs ds → (got : Got) (name other : List ℕ) →
+      fileLine (wordsOf (outcomeAt got (cardTaken edition cs))) name ≡ fileLine (wordsOf (outcomeAt got (cardTaken edition ds))) other)
+  pub csv : NotSo (d .hidden-digits-reach-nothing .csv) ((s t : List ℕ) → length s ≡ length t → csvOf s ≡ csvOf t)
+  pub puts-rows : NotSo (d .hidden-digits-reach-nothing .puts-rows)
+      ((number : ℕ) (s t out : List ℕ) → length s ≡ length t → (answer-s answer-t : Rows) (after-s after-t : List ℕ) →
+      PutsRows number s out answer-s after-s → PutsRows number t out answer-t after-t → after-s ≡ after-t)
+  pub rows-so-far : NotSo (d .hidden-digits-reach-nothing .rows-so-far)
+      ((cs ds : List (List ℕ)) (more-of-one more-of-other : List ℕ) → TwinFiles (joinedChunks cs ++ more-of-one) (joinedChunks ds ++ more-of-other) →
+      tabledInChunks cs .written ≡ tabledInChunks ds .written)
   -- a letter put for a hidden digit; a digit put for an open one
   pub record-twins-made : NotSo (d .twins-made .records)
       ((r s : List ℕ) → AgreeOutside (λ i. hiddenInRecord r i && digit (getD r i 0)) r s → TwinRecords r s)

@@ -1,6 +1,10 @@
 // card EDITION < FILE: checks a card file, and prints its verdict.
+// card EDITION FILE..: checks many card files, and prints a line for each and the tally.
+use card_program::list;
 use card_program::verdict;
+use card_program::verdict::Lines;
 use card_program::work;
+use file_list::listed;
 use libc::STDIN_FILENO;
 use program::argument;
 use program::argument::Argument;
@@ -9,7 +13,8 @@ use program::mistake::Mistake;
 use program::mistake::Program;
 
 fn main() {
-    if os::arg_count() != 2 {
+    let count = os::arg_count();
+    if count < 2 {
         mistake::tell(Mistake::Usage(Program::Card));
         return;
     }
@@ -18,5 +23,9 @@ fn main() {
         mistake::tell(Mistake::TooLong);
         return;
     };
-    verdict::print(work::work(&edition[..size], STDIN_FILENO));
+    if count == 2 {
+        verdict::print(Lines::Sales, work::work(&edition[..size], STDIN_FILENO));
+        return;
+    }
+    listed::print(list::list_under(&edition[..size], count));
 }

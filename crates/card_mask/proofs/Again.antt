@@ -8,13 +8,13 @@ use lib.ListN.{length, take}
 use Rattle.pan.specs.Masked.{masked}
 use Rattle.pan.proofs.Masking.{masked-again}
 use Rattle.pan.proofs.Tests.{by-test}
-use Rattle.lines.specs.Lines.{Lines, cr, cut, rejoined, noLf, endsInCr, withoutLast, withCr}
+use Rattle.lines.specs.Lines.{Lines, cr, cut, rejoined, noLf, endsInCr, withoutLast, withCr, finishedIn}
 use Rattle.lines.proofs.Cuts.{cut-is-cut, cut-is-unique}
 use Rattle.lines.proofs.Ends.{cr-ends, before-last}
 use Rattle.card_record.specs.declared.card_part.CardPart.{CardPart}
 use Rattle.card_record.specs.declared.card_part.CardPart.the-variants.{From, Nowhere}
 use Rattle.card_record.specs.CardPart.{cardPart, cardFrom}
-use Rattle.card_mask.specs.Masked.{maskedAt, maskedRecord, maskedPiece, maskedFile, finishedIn}
+use Rattle.card_mask.specs.Masked.{maskedAt, maskedRecord, maskedPiece, maskedFile}
 use Rattle.card_mask.proofs.Pieces.{no-record}
 use Rattle.card_mask.proofs.InChunks.{finished-part}
 use Rattle.card_mask.proofs.Clear.{pieces-clear}

@@ -6,10 +6,11 @@ use native.Mathlib.Omega.{arith}
 use lib.ListN.{length, take, drop, length-append, length-drop, take-append-drop, drop-of-length-le}
 use lib.Seq.{length-take-le, take-at, drop-at, drop-drop}
 use Rattle.lines.specs.declared.Found.the-variants.{At, Nowhere}
-use Rattle.lines.specs.Lines.{Lines, lf, cut, rejoined, nextLf}
+use Rattle.lines.specs.Lines.{lf, cut, rejoined, finishedIn, nextLf}
 use Rattle.lines.proofs.Search.{split}
 use Rattle.lines.proofs.Cuts.{cut-at, at-inside, cut-nowhere}
-use Rattle.card_mask.specs.Masked.{maskedPiece, maskedFile, finishedIn, MasksLines}
+use Rattle.lines.proofs.Finished.{first-finished}
+use Rattle.card_mask.specs.Masked.{maskedPiece, maskedFile, MasksLines}
 use Rattle.card_mask.proofs.Pieces.{piece-length}
 
 -- at an LF that was found, the bytes go on with it
@@ -39,27 +40,6 @@ none-left at s q = rw (cut-nowhere at s q)
 pub nothing-left : (at : ℕ) (s : List ℕ) → length s ≤ at → maskedFile (drop at s) ≡ drop at s
 unfolding rejoined cut
 nothing-left at s h = rw (drop-of-length-le s h)
-
--- and how many bytes the finished lines of what is left take
-first-finished : (at : ℕ) (s : List ℕ) (e : ℕ) → nextLf at s ≡ At e → at + finishedIn (drop at s) ≡ (e + 1) + finishedIn (drop (e + 1) s)
-unfolding rejoined
-first-finished at s e q =
-    let i = at-inside at s e q in
-    let left : length (drop at s) ≡ length s - at = length-drop at s in
-    let piece : length (take (e - at) (drop at s)) ≡ e - at = length-take-le (e - at) (drop at s) (omega arith) in
-    let next = rejoined (cut (drop (e + 1) s) .pieces) [] in
-    let both : finishedIn (drop at s) ≡ length (take (e - at) (drop at s)) + suc (length next) =
-    ap (λ (ls : Lines). length (rejoined (ls .pieces) [])) (cut-at at s e q) ∙ length-append (take (e - at) (drop at s)) (lf ∷ next) in
-    omega arith
-
--- nothing of what is left is finished: there is no LF, or no byte
-pub none-finished : (at : ℕ) (s : List ℕ) → nextLf at s ≡ Nowhere → finishedIn (drop at s) ≡ 0
-unfolding rejoined
-none-finished at s q = rw (cut-nowhere at s q)
-
-pub nothing-finished : (at : ℕ) (s : List ℕ) → length s ≤ at → finishedIn (drop at s) ≡ 0
-unfolding rejoined cut
-nothing-finished at s h = rw (drop-of-length-le s h)
 
 -- bytes that are masked from the front: before a place they are done, and from there on they are as they were
 pub record Sofar (bytes₀ : List ℕ) (at : ℕ) (bytes : List ℕ) : Type 0 where

@@ -6,10 +6,11 @@ use mathlib.Core.List.{List, [], _∷_, _++_, map, map-append, foldl, append-nil
 use native.Mathlib.Omega.{arith}
 use lib.ListN.{length, take, drop, length-append}
 use lib.Seq.{take-at, drop-at}
-use Rattle.lines.specs.Lines.{Lines, lf, cut, rejoined}
+use Rattle.lines.specs.Lines.{Lines, lf, cut, rejoined, finishedIn}
 use Rattle.lines.proofs.Cuts.{cut-is-cut}
+use Rattle.lines.proofs.Finished.{rejoined-behind}
 use Rattle.chunks.specs.Chunks.{joinedChunks}
-use Rattle.chunks.proofs.Streams.{rejoined-behind, cut-on}
+use Rattle.chunks.proofs.Streams.{cut-on}
 use Rattle.card_run.specs.declared.stage.Stage.{Stage}
 use Rattle.card_run.specs.declared.stage.Stage.the-variants.{Start, BetweenBatches, InBatch, Ended, Closed, Refused}
 use Rattle.card_run.specs.declared.running.Running.{Running}
@@ -18,7 +19,7 @@ use Rattle.card_run.specs.declared.answer.CardAnswer.the-variants.{Accepted}
 use Rattle.card_run.specs.Running.{openOf, lateAt}
 use Rattle.card_run.specs.Answer.{answerAt, answerOf}
 use Rattle.card_file.specs.CardFile.{unendedAt, linesOf, endOf, checkOf}
-use Rattle.card_mask.specs.Masked.{maskedPiece, maskedFile, finishedIn}
+use Rattle.card_mask.specs.Masked.{maskedPiece, maskedFile}
 use Rattle.card_mask.specs.InChunks.{Copied, nothingCopied, copiedOver}
 use Rattle.card_mask.proofs.Pieces.{piece-length}
 
@@ -42,7 +43,7 @@ pub finished-part : (s : List ℕ) → take (finishedIn s) (maskedFile s) ≡ re
 finished-part s =
     ap (take (finishedIn s)) (lines-then-rest s) ∙ take-at (rejoined (map maskedPiece (cut s .pieces)) []) (cut s .rest) (finishedIn s) (lines-length (cut s .pieces) [])
 
-waiting-part : (s : List ℕ) → drop (finishedIn s) (maskedFile s) ≡ cut s .rest
+pub waiting-part : (s : List ℕ) → drop (finishedIn s) (maskedFile s) ≡ cut s .rest
 waiting-part s =
     ap (drop (finishedIn s)) (lines-then-rest s) ∙ drop-at (rejoined (map maskedPiece (cut s .pieces)) []) (cut s .rest) (finishedIn s) (lines-length (cut s .pieces) [])
 
@@ -99,6 +100,11 @@ copied-as-whole chunks =
 pub lines-written : (chunks : List (List ℕ)) → foldl copiedOver nothingCopied chunks .written ≡ rejoined (map maskedPiece (cut (joinedChunks chunks) .pieces)) []
 unfolding copyOf cut rejoined
 lines-written chunks = ap (λ (c : Copied). c .written) (all-chunks [] chunks)
+
+-- and what waits: the rest of their cut
+pub rest-waits : (chunks : List (List ℕ)) → foldl copiedOver nothingCopied chunks .waiting ≡ cut (joinedChunks chunks) .rest
+unfolding copyOf cut rejoined
+rest-waits chunks = ap (λ (c : Copied). c .waiting) (all-chunks [] chunks)
 
 -- and of an accepted file nothing waits, so what was written is all of it
 pub accepted-copy-written : (edition : ℕ) (chunks : List (List ℕ)) (a : Numbers) → checkOf edition (joinedChunks chunks) ≡ Accepted a →

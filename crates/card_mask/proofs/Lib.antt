@@ -3,7 +3,6 @@ pub mod InFront
 pub mod Copies
 pub mod Answers
 pub mod InChunks
-pub mod Finished
 pub mod MaskedCard
 pub mod Clear
 pub mod Again

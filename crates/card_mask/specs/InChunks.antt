@@ -2,7 +2,8 @@
 use Prim.Native.Nat.{ℕ}
 use mathlib.Core.List.{List, [], _++_}
 use lib.ListN.{take, drop}
-use Rattle.card_mask.specs.Masked.{maskedFile, finishedIn}
+use Rattle.lines.specs.Lines.{finishedIn}
+use Rattle.card_mask.specs.Masked.{maskedFile}
 
 pub record Copied : Type 0 where
   pub written : List ℕ

@@ -3,9 +3,9 @@ use Prim.Native.Nat.{ℕ, _+_}
 use mathlib.Core.Path.{_≡_}
 use mathlib.Core.List.{List, [], _∷_, _++_, map}
 use mathlib.Core.Bool.{cond}
-use lib.ListN.{length, take, drop}
+use lib.ListN.{take, drop}
 use Rattle.pan.specs.Masked.{masked}
-use Rattle.lines.specs.Lines.{cr, cut, rejoined, endsInCr, withoutLast}
+use Rattle.lines.specs.Lines.{cr, cut, rejoined, endsInCr, withoutLast, finishedIn}
 use Rattle.card_record.specs.declared.card_part.CardPart.{CardPart}
 use Rattle.card_record.specs.declared.card_part.CardPart.the-variants.{From, Nowhere}
 use Rattle.card_record.specs.CardPart.{cardPart, cardFrom}
@@ -25,10 +25,6 @@ maskedPiece p = cond (endsInCr p) (maskedRecord (withoutLast p) ++ (cr ∷ [])) 
 -- every record of a file masked
 abbrev pub maskedFile : List ℕ → List ℕ
 maskedFile file = rejoined (map maskedPiece (cut file .pieces)) (cut file .rest)
-
--- how many bytes the finished lines of some bytes take, each with its LF
-abbrev pub finishedIn : List ℕ → ℕ
-finishedIn s = length (rejoined (cut s .pieces) [])
 
 -- masking the records in some bytes, where they stand: what it answers and leaves
 pub record MasksLines (bytes : List ℕ) (answer : ℕ) (after : List ℕ) : Type 0 where

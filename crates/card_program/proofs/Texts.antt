@@ -1,4 +1,4 @@
--- No text of an outcome has more than 384 bytes.
+-- No text of an outcome has more than 384 bytes, and its words in a list have no more than 511.
 use Prim.Native.Nat.{ℕ, _+_, _*_, _≤_}
 use mathlib.Core.List.{List}
 use native.Mathlib.Omega.{arith}
@@ -13,7 +13,10 @@ use Rattle.card_run.specs.declared.answer.Accepted.{Accepted as Numbers}
 use Rattle.card_run.specs.declared.answer.CardAnswer.the-variants.{GoingOn, Accepted, Refused}
 use Rattle.card_program.specs.declared.outcome.Outcome.{Outcome}
 use Rattle.card_program.specs.declared.outcome.Outcome.the-variants.{Answer, Mistake}
-use Rattle.card_program.specs.Verdict.{ledLine, totalsText, setsText, acceptedText, outcomeText}
+use Rattle.card_program.specs.declared.verdict.Lines.{Lines}
+use Rattle.card_program.specs.declared.verdict.Lines.the-variants.{Sales, Adjustments}
+use Rattle.card_program.specs.Listing.{wordsOf}
+use Rattle.card_program.specs.Verdict.{ledLine, totalsText, setsText, acceptedText, adjustedText, outcomeText}
 
 pub totals-short : (word : List ℕ) (t : Totals) → length (totalsText word t) ≤ 4 * length word + 109
 unfolding ledLine totalsText
@@ -37,8 +40,27 @@ accepted-short a =
     simp length-append
     (omega (arith, line-short (ascii "RECORDS") (a .records), line-short (ascii "BATCHES") (a .batches), sets-short (a .totals)))
 
-pub outcome-short : (outcome : Outcome) → length (outcomeText outcome) ≤ 384
-outcome-short (Answer GoingOn) = lit≤ tt
-outcome-short (Answer (Accepted numbers)) = omega (arith, accepted-short numbers)
-outcome-short (Answer (Refused refusal)) = omega (arith, refused-short refusal)
-outcome-short (Mistake mistake) = omega (arith, sentence-short mistake)
+adjusted-short : (a : Numbers) → length (adjustedText a) ≤ 129
+unfolding adjustedText
+adjusted-short a =
+    simp length-append
+    (omega (
+      arith,
+      line-short (ascii "CREDITS") (a .credits .count),
+      line-short (ascii "CREDIT NET") (a .credits .net),
+      line-short (ascii "DEBITS") (a .debits .count),
+      line-short (ascii "DEBIT NET") (a .debits .net),
+    ))
+
+pub outcome-short : (lines : Lines) (outcome : Outcome) → length (outcomeText lines outcome) ≤ 384
+outcome-short lines (Answer GoingOn) = lit≤ tt
+outcome-short Sales (Answer (Accepted numbers)) = omega (arith, accepted-short numbers)
+outcome-short Adjustments (Answer (Accepted numbers)) = omega (arith, adjusted-short numbers)
+outcome-short lines (Answer (Refused refusal)) = omega (arith, refused-short refusal)
+outcome-short lines (Mistake mistake) = omega (arith, sentence-short mistake)
+
+pub words-short : (outcome : Outcome) → length (wordsOf outcome) ≤ 511
+words-short (Answer GoingOn) = lit≤ tt
+words-short (Answer (Accepted numbers)) = omega (arith, accepted-short numbers)
+words-short (Answer (Refused refusal)) = omega (arith, refused-short refusal)
+words-short (Mistake mistake) = lit≤ tt

@@ -3,6 +3,7 @@ ghost use Rattle.card_program.specs.Checked.{Checked};
 use crate::outcome;
 use crate::outcome::Outcome;
 use card_stream::Stream;
+use files::error;
 use files::reading;
 use files::reading::Got;
 use program::mistake::Failed;
@@ -34,4 +35,17 @@ pub fn check(edition: u64, fd: i32) -> Outcome
 {
     let mut buffer = io::large_buffer();
     check_by(edition, fd, &mut buffer)
+}
+
+// Checks the card file of a name.
+pub fn check_file(edition: u64, file: &[u8]) -> Outcome
+    ensures { λ r. ⌜ Checked edition r ⌝ }
+{
+    let fd = os::open_read(file);
+    if fd < 0 {
+        return Outcome::Mistake(Mistake::System(Failed::Open, error::number()));
+    }
+    let outcome = check(edition, fd);
+    libc::close(fd);
+    outcome
 }

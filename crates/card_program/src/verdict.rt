@@ -6,6 +6,8 @@ ghost use Rattle.card_program.specs.Verdict.{
   totalsText,
   setsText,
   acceptedText,
+  adjustedText,
+  numbersText,
   verdictText,
   outcomeText,
   descriptorOf,
@@ -23,6 +25,14 @@ use totals::amounts::Totals;
 use totals::two_sets::TwoSets;
 use wording::line;
 use wording::put;
+
+// What is printed of an accepted file.
+pub enum Lines {
+    // Its records, its batches, and the totals of its sales.
+    Sales,
+    // Its credits and its debits.
+    Adjustments,
+}
 
 // Room for every text.
 const ROOM: usize = 384;
@@ -54,7 +64,7 @@ pub fn put_sets(sets: TwoSets, out: &mut [u8], at: usize) -> usize
     put_totals(b"SETTLED ", sets.settled, out, forecast)
 }
 
-fn put_accepted(accepted: Accepted, out: &mut [u8], at: usize) -> usize
+pub(crate) fn put_accepted(accepted: Accepted, out: &mut [u8], at: usize) -> usize
     ensures { λ r. ⌜ Puts (acceptedText accepted) (now (out .entry)) at r (now (out .exit)) ⌝ }
 {
     let word = put::text(b"ACCEPTED\n", out, at);
@@ -63,22 +73,44 @@ fn put_accepted(accepted: Accepted, out: &mut [u8], at: usize) -> usize
     put_sets(accepted.totals, out, batches)
 }
 
-fn put_verdict(answer: CardAnswer, out: &mut [u8], at: usize) -> usize
-    ensures { λ r. ⌜ Puts (verdictText answer) (now (out .entry)) at r (now (out .exit)) ⌝ }
+fn put_adjusted(accepted: Accepted, out: &mut [u8], at: usize) -> usize
+    ensures { λ r. ⌜ Puts (adjustedText accepted) (now (out .entry)) at r (now (out .exit)) ⌝ }
+{
+    let credits = accepted.credits;
+    let debits = accepted.debits;
+    let word = put::text(b"ACCEPTED\n", out, at);
+    let credited = line::line(b"CREDITS", credits.count, out, word);
+    let credit_net = line::line(b"CREDIT NET", credits.net, out, credited);
+    let debited = line::line(b"DEBITS", debits.count, out, credit_net);
+    line::line(b"DEBIT NET", debits.net, out, debited)
+}
+
+// The lines that are asked for.
+fn put_numbers(lines: Lines, accepted: Accepted, out: &mut [u8], at: usize) -> usize
+    ensures { λ r. ⌜ Puts (numbersText lines accepted) (now (out .entry)) at r (now (out .exit)) ⌝ }
+{
+    match lines {
+        Lines::Sales => put_accepted(accepted, out, at),
+        Lines::Adjustments => put_adjusted(accepted, out, at),
+    }
+}
+
+fn put_verdict(lines: Lines, answer: CardAnswer, out: &mut [u8], at: usize) -> usize
+    ensures { λ r. ⌜ Puts (verdictText lines answer) (now (out .entry)) at r (now (out .exit)) ⌝ }
 {
     match answer {
         CardAnswer::GoingOn => put::text(b"", out, at),
-        CardAnswer::Accepted(accepted) => put_accepted(accepted, out, at),
+        CardAnswer::Accepted(accepted) => put_numbers(lines, accepted, out, at),
         CardAnswer::Refused(refusal) => line::refused(refusal, out, at),
     }
 }
 
 // The verdict, or the mistake's sentence.
-pub fn put_outcome(outcome: Outcome, out: &mut [u8], at: usize) -> usize
-    ensures { λ r. ⌜ Puts (outcomeText outcome) (now (out .entry)) at r (now (out .exit)) ⌝ }
+pub fn put_outcome(lines: Lines, outcome: Outcome, out: &mut [u8], at: usize) -> usize
+    ensures { λ r. ⌜ Puts (outcomeText lines outcome) (now (out .entry)) at r (now (out .exit)) ⌝ }
 {
     match outcome {
-        Outcome::Answer(answer) => put_verdict(answer, out, at),
+        Outcome::Answer(answer) => put_verdict(lines, answer, out, at),
         Outcome::Mistake(mistake) => mistake::put(mistake, out, at),
     }
 }
@@ -94,8 +126,8 @@ pub fn descriptor(outcome: Outcome) -> i32
 }
 
 // Writes an outcome's text, and no other.
-fn write(outcome: Outcome, text: &[u8])
-    requires { ⌜ now text ≡ outcomeText outcome ⌝ }
+fn write(lines: Lines, outcome: Outcome, text: &[u8])
+    requires { ⌜ now text ≡ outcomeText lines outcome ⌝ }
 {
     if !io::write_all(descriptor(outcome), text) {
         mistake::tell(Mistake::System(Failed::Print, error::number()));
@@ -103,8 +135,8 @@ fn write(outcome: Outcome, text: &[u8])
 }
 
 // Prints the verdict, or tells the mistake, by one call.
-pub fn print(outcome: Outcome) {
+pub fn print(lines: Lines, outcome: Outcome) {
     let mut room = [0u8; ROOM];
-    let size = put_outcome(outcome, &mut room, 0);
-    write(outcome, &room[..size]);
+    let size = put_outcome(lines, outcome, &mut room, 0);
+    write(lines, outcome, &room[..size]);
 }

@@ -5,8 +5,9 @@ use mathlib.Core.Path.{_≡_, refl, sym, _∙_, ap}
 use mathlib.Core.List.{List, [], _∷_, _++_, foldl, foldl-append, append-nil, append-assoc}
 use mathlib.Core.Bool.{Bool, true, false, cond}
 use lib.Dec.{eqb}
-use Rattle.lines.specs.Lines.{Lines, lf, cut, inFront, rejoined, noLf}
+use Rattle.lines.specs.Lines.{Lines, lf, cut, inFront, noLf}
 use Rattle.lines.proofs.Cuts.{piecesThen, cut-is-cut, cut-rejoined}
+use Rattle.lines.proofs.Finished.{rejoined-behind}
 use Rattle.chunks.specs.Unfinished.{clippedWith, clipped}
 use Rattle.chunks.specs.Chunks.{Run, startOf, heldBefore, ranLines, ranOver, joinedChunks}
 use Rattle.chunks.proofs.Clipped.{clipped-again, clipped-behind}
@@ -23,7 +24,7 @@ unfolding heldBefore
 nothing-before [] rest = refl
 nothing-before (p ∷ ps) rest = refl
 
-cut-before : (a b : List ℕ) → noLf a ≡ true → cut (a ++ b) ≡ heldBefore a (cut b .pieces) (cut b .rest)
+pub cut-before : (a b : List ℕ) → noLf a ≡ true → cut (a ++ b) ≡ heldBefore a (cut b .pieces) (cut b .rest)
 unfolding cut noLf
 cut-before [] b e = nothing-before (cut b .pieces) (cut b .rest)
 cut-before (x ∷ a) b e = one (eqb x lf) e (cut-before a b)
@@ -35,11 +36,6 @@ cut-before (x ∷ a) b e = one (eqb x lf) e (cut-before a b)
     one false e w = ap (λ (ls : Lines). inFront x (ls .pieces) (ls .rest)) (w e) ∙ byte-before x a (cut b .pieces) (cut b .rest)
 
 -- the cut of bytes goes on from what was left of those before
-pub rejoined-behind : (ps : List (List ℕ)) (r b : List ℕ) → rejoined ps r ++ b ≡ rejoined ps (r ++ b)
-unfolding rejoined
-rejoined-behind [] r b = refl
-rejoined-behind (p ∷ ps) r b = append-assoc p _ b ∙ ap (λ s. p ++ (lf ∷ s)) (rejoined-behind ps r b)
-
 pub cut-on : (a b : List ℕ) → cut (a ++ b) ≡ piecesThen (cut a .pieces) (cut (cut a .rest ++ b))
 cut-on a b =
     let w = cut-is-cut a in

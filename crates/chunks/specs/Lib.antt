@@ -1,2 +1,3 @@
 pub mod Unfinished
 pub mod Chunks
+pub mod Waiting

@@ -29,15 +29,19 @@ use Rattle.card_mask.specs.Masked.{maskedPiece, maskedFile}
 use Rattle.card_mask.proofs.Again.{cut-masked}
 use Rattle.card_mask.proofs.Clear.{stars-clear}
 use Rattle.card_mask.proofs.InChunks.{lines-written}
+use Rattle.adjustment_rows.specs.Row.{header}
+use Rattle.adjustment_rows.specs.Rows.{rowsOf}
+use Rattle.adjustment_rows.proofs.InChunks.{tabled-as-whole}
 use Rattle.program.specs.declared.mistake.Mistake.the-variants.{System}
 use Rattle.program.specs.declared.mistake.Failed.the-variants.{Read}
 use Rattle.card_program.specs.declared.outcome.Outcome.the-variants.{Answer, Mistake}
 use Rattle.card_program.specs.Outcome.{isDecided, outcomeAt}
 use Rattle.demands.specs.HiddenDigits.{hiddenInPieces, hiddenIn}
-use Rattle.demands.specs.InChunks.{cardTaken, copiedInChunks}
+use Rattle.demands.specs.InChunks.{cardTaken, copiedInChunks, tabledInChunks}
 use Rattle.demands.specs.ToldAlike.{ComeAlike}
 use Rattle.demands.proofs.MaskedFiles.{same-lines}
 use Rattle.demands.proofs.MaskedPlaces.{of-pieces, stars-where-hidden}
+use Rattle.demands.proofs.MaskedRows.{same-rows}
 
 -- the lines of a, masked, and behind them what has come of the piece that has not ended, with the stars that it has in a ++ b: it may end within a card
 abbrev starred : List ℕ → List ℕ → Lines
@@ -104,6 +108,12 @@ module _ (cs ds : List (List ℕ)) (w : ComeAlike (λ s t. maskedFile s ≡ mask
   -- what masking has written
   pub written-alike : copiedInChunks cs .written ≡ copiedInChunks ds .written
   written-alike = lines-written cs ∙ ap (λ ps. rejoined ps []) pieces-alike ∙ sym (lines-written ds)
+
+  -- and the rows that are written
+  pub rows-written-alike : tabledInChunks cs .written ≡ tabledInChunks ds .written
+  rows-written-alike =
+      tabled-as-whole cs ∙ sym (ap (λ rows. header ++ rows) (same-rows 1 (cut (joinedChunks cs) .pieces))) ∙ ap (λ ps. header ++ rowsOf 1 ps) pieces-alike ∙
+      ap (λ rows. header ++ rows) (same-rows 1 (cut (joinedChunks ds) .pieces)) ∙ sym (tabled-as-whole ds)
 
   -- the streams that took them
   module _ (edition : ℕ) where

@@ -9,6 +9,7 @@ use Rattle.card_file.specs.CardFile.{checkOf}
 use Rattle.card_stream.specs.Stream as card
 use Rattle.card_stream.proofs.InChunks as card-stream
 use Rattle.card_mask.proofs.InChunks.{copied-as-whole, accepted-copy-written}
+use Rattle.adjustment_rows.proofs.InChunks.{tabled-as-whole}
 use Rattle.payroll_file.specs.declared.answer.PayrollAnswer.{PayrollAnswer}
 use Rattle.payroll_file.specs.declared.answer.PayrollAnswer.the-variants.{Refused as refused}
 use Rattle.payroll_file.specs.PayrollFile.{checkOf as payrollCheckOf}
@@ -21,6 +22,7 @@ use Rattle.payroll_file.specs.Answer as paper
 use Rattle.payroll_stream.proofs.ProgressRows.{same-progress, is-answered}
 use Rattle.demands.specs.InChunks.{cardTaken, payrollTaken, AsTheWhole, AfterTheEnd}
 use Rattle.demands.proofs.CardAfterEnd.{card-decided, card-ended-again, card-refused, card-accepted}
+use Rattle.demands.proofs.OnTheWay.{on-the-way}
 use Rattle.demands.proofs.PayrollAfterEnd.{payroll-decided, payroll-ended-again, payroll-refused, payroll-accepted}
 
 -- an answer that no chunk changes is there after all of them
@@ -62,6 +64,8 @@ as-the-whole =
       payroll-refused-early = λ chunks more x e. ap paper.payrollRow (payroll-refused-early chunks more x (same-progress _ (Answered (refused x)) e));
       masked-copy = copied-as-whole;
       accepted-copy = λ edition chunks e. accepted-copy-written edition chunks _ (rows.is-accepted _ e);
+      csv = tabled-as-whole;
+      on-the-way = on-the-way;
     }
 
 pub after-the-end : AfterTheEnd

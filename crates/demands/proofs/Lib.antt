@@ -2,6 +2,9 @@ pub mod Examples
 pub mod Feeding
 pub mod CardAfterEnd
 pub mod PayrollAfterEnd
+pub mod RulesKept
+pub mod RowsOfFile
+mod OnTheWay
 pub mod InChunks
 pub mod Editions
 pub mod HiddenPlaces
@@ -10,6 +13,7 @@ pub mod MaskedHidden
 pub mod MaskedRecords
 pub mod MaskedFields
 pub mod MaskedFiles
+pub mod MaskedRows
 pub mod ComeAlike
 pub mod ToldAlike
 pub mod TwinLaws
@@ -21,6 +25,5 @@ pub mod TwinsMade
 pub mod SameWay
 pub mod MaskTwice
 pub mod LentBuffers
-pub mod RulesKept
 pub mod DaySheets
 pub mod HiddenDigitsExample

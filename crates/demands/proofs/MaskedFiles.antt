@@ -4,7 +4,7 @@ use mathlib.Core.Path.{_≡_, refl, sym, _∙_, ap}
 use mathlib.Core.List.{List, [], _∷_, map}
 use lib.ListN.{length}
 use Rattle.pan.proofs.Tests.{by-test}
-use Rattle.lines.specs.Lines.{Lines, cr, cut, rejoined, endsInCr, withoutLast}
+use Rattle.lines.specs.Lines.{Lines, cr, cut, rejoined, endsInCr, withoutLast, finishedIn}
 use Rattle.lines.proofs.Cuts.{cut-is-cut}
 use Rattle.lines.proofs.Ends.{cr-ends, before-last}
 use Rattle.card_run.specs.declared.running.Running.{Running}
@@ -13,7 +13,7 @@ use Rattle.card_run.specs.Answer.{answerOf}
 use Rattle.card_step.specs.Step.{tookOf}
 use Rattle.card_file.specs.Feeding.{fedOf}
 use Rattle.card_file.specs.CardFile.{lineOf, linesOf, endOf, checkOf}
-use Rattle.card_mask.specs.Masked.{maskedRecord, maskedPiece, maskedFile, finishedIn}
+use Rattle.card_mask.specs.Masked.{maskedRecord, maskedPiece, maskedFile}
 use Rattle.card_mask.proofs.Pieces.{no-record}
 use Rattle.card_mask.proofs.InChunks.{lines-length}
 use Rattle.card_mask.proofs.Again.{cut-masked}

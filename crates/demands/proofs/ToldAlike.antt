@@ -1,11 +1,13 @@
 -- Records, and files, with one masked form are told alike: each question tells of the masked form what it tells of the record or the file (MaskedRecords,
 -- MaskedFields, MaskedFiles), and of a file that is still coming what it tells of as much of the masked form (ComeAlike).
-use Prim.Native.Nat.{ℕ, zero, suc}
+use Prim.Native.Nat.{ℕ, zero, suc, _+_, min}
 use mathlib.Core.Path.{_≡_, refl, sym, _∙_, ap, ap₂}
 use mathlib.Core.List.{List, _++_}
 use lib.ListN.{length, take, drop}
 use Rattle.refusal.specs.Rules.{firstBroken}
 use Rattle.chunks.specs.Chunks.{joinedChunks}
+use Rattle.lines.specs.Lines.{cut, finishedIn}
+use Rattle.wording.specs.Put.{overAt}
 use Rattle.card_record.specs.Reading.{readingOf}
 use Rattle.card_run.specs.declared.running.Running.{Running}
 use Rattle.card_run.specs.declared.answer.CardAnswer.{CardAnswer}
@@ -16,9 +18,13 @@ use Rattle.card_file.specs.CardFile.{checkOf}
 use Rattle.card_file.specs.Feeding.{fedOf, fedAll}
 use Rattle.card_file.specs.Room.{roomRules, answerBehind, answerWithRoom}
 use Rattle.card_stream.proofs.InChunks.{chunks-as-whole}
-use Rattle.card_mask.specs.Masked.{maskedRecord, maskedFile, finishedIn}
+use Rattle.card_mask.specs.Masked.{maskedRecord, maskedFile}
 use Rattle.card_mask.specs.Mask.{maskAnswer, maskedInto}
 use Rattle.card_mask.proofs.InChunks.{masked-length, copied-as-whole}
+use Rattle.adjustment_rows.specs.Row.{header}
+use Rattle.adjustment_rows.specs.Rows.{rowsOf}
+use Rattle.file_list.specs.Line.{fileLine}
+use Rattle.card_program.specs.Listing.{saidOf, wordsOf}
 use Rattle.card_program.specs.Verdict.{verdictText, outcomeText, descriptorOf}
 use Rattle.card_sheet.specs.SheetOf.{sheetInto}
 use Rattle.sale_field.specs.Field.{refusalOf, fieldOf, fieldRow}
@@ -27,7 +33,8 @@ use Rattle.demands.specs.ToldAlike.{AlikeLists, none, one-more, AlikeCal
 use Rattle.demands.proofs.MaskedRecords.{same-reading}
 use Rattle.demands.proofs.MaskedFields.{same-refusal, same-field}
 use Rattle.demands.proofs.MaskedFiles.{same-fed, same-check, same-finished}
-use Rattle.demands.proofs.ComeAlike.{written-alike, so-far-alike, printed-alike, taken-alike}
+use Rattle.demands.proofs.MaskedRows.{same-rows-of-file}
+use Rattle.demands.proofs.ComeAlike.{written-alike, rows-written-alike, so-far-alike, printed-alike, taken-alike}
 
 -- where a form is told as what it is the form of, all that share the form are told alike
 pub alike : {A : Type 0} (form : List ℕ → List ℕ) (tell : List ℕ → A) → ((s : List ℕ) → tell (form s) ≡ tell s) → {s t : List ℕ} → form s ≡ form t → tell s ≡ tell t
@@ -44,6 +51,10 @@ module _ (s t : List ℕ) (e : maskedFile s ≡ maskedFile t) where
   room-alike : (edition need room : ℕ) → answerWithRoom edition s need room ≡ answerWithRoom edition t need room
   unfolding answerWithRoom
   room-alike edition need room = ap (λ answer. answerBehind (firstBroken (roomRules edition need room)) answer) (check-alike edition)
+
+  -- the rows of its adjustments
+  rows-alike : (number : ℕ) → rowsOf number (cut s .pieces) ≡ rowsOf number (cut t .pieces)
+  rows-alike number = alike maskedFile (λ file. rowsOf number (cut file .pieces)) (same-rows-of-file number) e
 
   mask-alike : (edition room : ℕ) → maskAnswer edition s room ≡ maskAnswer edition t room
   mask-alike edition room = room-alike edition (length s) room ∙ ap (λ need. answerWithRoom edition t need room) length-alike
@@ -114,12 +125,25 @@ module _ (AlikeRecords AlikeFiles : List ℕ → List ℕ → Type 0)
         copied = λ cs ds w. copied-as-whole cs ∙ files (joinedChunks cs) (joinedChunks ds) w ∙ sym (copied-as-whole ds);
         so-far = λ edition cs ds w. ap cardFileRow (so-far-alike cs ds (come-alike w) edition);
         written-so-far = λ cs ds w. written-alike cs ds (come-alike w);
-        taken-so-far = λ edition cs ds w.
+        taken-so-far = λ edition lines cs ds w.
             let same = taken-alike cs ds (come-alike w) edition in
-            (ap cardFileRow same, ap verdictText same);
-        printed = λ edition cs ds w got.
+            (ap cardFileRow same, ap (verdictText lines) same);
+        printed = λ edition lines cs ds w got.
             let same = printed-alike cs ds (come-alike w) edition got in
-            (ap outcomeText same, ap descriptorOf same);
+            (ap (outcomeText lines) same, ap descriptorOf same);
+        listed = λ edition cs ds w got name.
+            let same = printed-alike cs ds (come-alike w) edition got in
+            (ap (λ outcome. fileLine (wordsOf outcome) name) same, ap saidOf same);
+        csv = λ s t w. ap (λ rows. header ++ rows) (rows-alike s t (files s t w) 1);
+        puts-rows = λ number s t out w a b after-s after-t m n.
+            let e = files s t w in
+            let same = rows-alike s t e number in
+            let lines = m .counts ∙ alike maskedFile finishedIn same-finished e ∙ sym (n .counts) in
+            let size = m .puts .ends ∙ ap (λ rows. min (0 + length rows) (length out)) same ∙ sym (n .puts .ends) in (
+              λ i. record { lines = lines i; size = size i },
+              m .puts .leaves ∙ ap (λ rows. overAt 0 rows out) same ∙ sym (n .puts .leaves),
+            );
+        rows-so-far = λ cs ds w. rows-written-alike cs ds (come-alike w);
         sheets = λ edition s t out w a b after-s after-t m n.
             let answers = room-alike s t (files s t w) edition 81 (length out) in (
               ap cardFileRow (m .answers ∙ answers ∙ sym (n .answers)),

@@ -1,12 +1,14 @@
 -- THE DEMANDS, as one closed statement: each with all its hypotheses, over every input, through the paper's rows.
 use Prim.Native.Nat.{ℕ}
 use mathlib.Core.Path.{_≡_}
-use mathlib.Core.List.{List, []}
+use mathlib.Core.List.{List, [], _∷_, _++_}
 use mathlib.Core.Bool.{true, false}
 use Rattle.refusal.specs.declared.Cause.the-variants.{EditionUnknown, EditionRetired}
 use Rattle.refusal.specs.declared.Refusal.{Refusal}
 use Rattle.refusal.specs.Row.{noRefusal}
-use Rattle.lines.specs.Lines.{allNoLf}
+use Rattle.lines.specs.Lines.{allNoLf, cut}
+use Rattle.wording.specs.Shown.{shownAs}
+use Rattle.file_list.specs.Line.{fileLine}
 use Rattle.first_fault.specs.InTurn.{piecesHold}
 use Rattle.edition.specs.Known.{current, retired, known}
 use Rattle.card_run.specs.declared.running.Running.{Running}
@@ -31,6 +33,7 @@ use Rattle.demands.specs.HiddenDigitsExample.{oneFile, otherFile, oneCre
 use Rattle.demands.specs.InChunks.{AsTheWhole, AfterTheEnd}
 use Rattle.demands.specs.LentBuffers.{RefusedLeavesAlone}
 use Rattle.demands.specs.MaskTwice.{MaskTwice}
+use Rattle.demands.specs.RowsOfFile.{RowsOfFile}
 use Rattle.demands.specs.RulesKept.{CardRulesKept, PayrollRulesKept}
 use Rattle.demands.specs.SameWay.{SameWay}
 use Rattle.demands.specs.TwinsMade.{TwinsMade}
@@ -67,6 +70,10 @@ pub record Demands : Type 0 where
   -- "Demand 2's clause on sheets now covers both versions"; "From 1 to 2 and back gives the same bytes"
   pub sheet-converted : SheetConverted
   pub sheet-of-file : SheetOfFile
+  -- the adjustments of a file as CSV
+  pub rows-of-file : RowsOfFile
+  -- a file among many has one line, whatever its name holds: the words and the name, and one LF at the end
+  pub one-line-each : (words name : List ℕ) → cut (fileLine words name) ≡ record { pieces = (shownAs 32 words ++ shownAs 63 name) ∷ []; rest = [] }
   -- "Feeding records one by one ends as reading the whole does": "Equality with the whole holds for records without LF"
   pub fed-as-whole : (edition : ℕ) (records : List (List ℕ)) → allNoLf records ≡ true → FedAsWhole edition records
   -- "Once refused, every later call gives that same refusal"

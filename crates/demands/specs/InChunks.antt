@@ -6,13 +6,17 @@ use mathlib.Core.Bool.{true}
 use Rattle.refusal.specs.declared.Cause.the-variants.{BytesAfterTheEnd}
 use Rattle.refusal.specs.declared.Refusal.{Refusal}
 use Rattle.chunks.specs.Chunks.{joinedChunks}
+use Rattle.chunks.specs.Waiting.{waitingIn}
 use Rattle.card_run.specs.declared.answer.CardAnswer.{CardAnswer}
+use Rattle.card_run.specs.Running.{nextNumber}
 use Rattle.card_run.specs.Answer.{goingOnRow, refusedRow, cardFileRow}
 use Rattle.card_file.specs.CardFile.{checkOf}
 use Rattle.card_stream.specs.declared.Stream.{Stream as CardStream}
 use Rattle.card_stream.specs.Stream as card
 use Rattle.card_mask.specs.Masked.{maskedFile}
 use Rattle.card_mask.specs.InChunks.{Copied, nothingCopied, copiedOver}
+use Rattle.adjustment_rows.specs.Rows.{csvOf}
+use Rattle.adjustment_rows.specs.InChunks.{Tabled, onlyHeader, tabledOver}
 use Rattle.payroll_run.specs.State.{refusalAt}
 use Rattle.payroll_file.specs.Answer as paper
 use Rattle.payroll_file.specs.PayrollFile.{checkOf as payrollCheckOf}
@@ -38,6 +42,10 @@ payrollInChunks chunks = payroll.answerOf (payroll.endedOf (payrollTaken chunks)
 abbrev pub copiedInChunks : List (List ℕ) → Copied
 copiedInChunks chunks = foldl copiedOver nothingCopied chunks
 
+-- and what the rows of the chunks' adjustments have come to
+abbrev pub tabledInChunks : List (List ℕ) → Tabled
+tabledInChunks chunks = foldl tabledOver onlyHeader chunks
+
 pub record AsTheWhole : Type 0 where
   pub card-file : (edition : ℕ) (chunks : List (List ℕ)) → cardFileRow (cardInChunks edition chunks) ≡ cardFileRow (checkOf edition (joinedChunks chunks))
   pub payroll-file : (chunks : List (List ℕ)) → payroll.progressRow (payrollInChunks chunks) ≡ paper.payrollRow (payrollCheckOf (joinedChunks chunks))
@@ -50,6 +58,12 @@ pub record AsTheWhole : Type 0 where
   pub masked-copy : (chunks : List (List ℕ)) → copiedInChunks chunks .written ++ copiedInChunks chunks .waiting ≡ maskedFile (joinedChunks chunks)
   pub accepted-copy : (edition : ℕ) (chunks : List (List ℕ)) → cardFileRow (checkOf edition (joinedChunks chunks)) .accepted ≡ true →
       copiedInChunks chunks ≡ record { written = maskedFile (joinedChunks chunks); waiting = [] }
+  -- the rows that are written chunk by chunk are the file's
+  pub csv : (chunks : List (List ℕ)) → tabledInChunks chunks .written ≡ csvOf (joinedChunks chunks)
+  -- on the way through an accepted file, with a buffer of 65,536 bytes, no line is let go: what waits in it is what waits here; and the stream gives the next record the number of its row
+  pub on-the-way : (edition : ℕ) (chunks : List (List ℕ)) (more : List ℕ) → cardFileRow (checkOf edition (joinedChunks chunks ++ more)) .accepted ≡ true →
+      (waitingIn 65536 chunks ≡ copiedInChunks chunks .waiting) × (waitingIn 65536 chunks ≡ tabledInChunks chunks .waiting) ×
+      (nextNumber (cardTaken edition chunks .state) ≡ tabledInChunks chunks .number)
 
 -- a chunk or an end after the end, or after a refusal, in every state that a caller can hold
 pub record AfterTheEnd : Type 0 where

@@ -9,6 +9,7 @@ pub mod SameWay
 pub mod MaskTwice
 pub mod Editions
 pub mod LentBuffers
+pub mod RowsOfFile
 pub mod RulesKept
 pub mod DaySheets
 pub mod HiddenDigitsExample

@@ -1,6 +1,6 @@
 -- TOLD ALIKE: records, and files, of which these questions tell the same, a field for each. Which records and which files is a parameter: those that differ
--- only in hidden digits (HiddenDigits), and a file and its masked form (MaskTwice). Of the programs `card`, `mask` and `sheet` the list has what they print of a
--- card file: the text of its outcome, and on which descriptor (`printed`). Which bytes a system call moved, and the mistakes that its answer gives, are the system's affair.
+-- only in hidden digits (HiddenDigits), and a file and its masked form (MaskTwice). Of the programs `card`, `mask`, `sheet` and `adjustments` the list has what they print of a
+-- card file: the text of its outcome, and on which descriptor (`printed`), and its line among many (`listed`). Which bytes a system call moved, and the mistakes that its answer gives, are the system's affair.
 use Prim.Native.Nat.{ℕ}
 use mathlib.Core.Path.{_≡_}
 use mathlib.Core.List.{List, [], _∷_, _++_}
@@ -17,12 +17,17 @@ use Rattle.card_file.specs.Feeding.{fedAll}
 use Rattle.card_stream.specs.Stream as card
 use Rattle.card_mask.specs.Masked.{MasksLines}
 use Rattle.card_mask.specs.Mask.{Masks}
+use Rattle.adjustment_rows.specs.declared.rows.Rows.{Rows}
+use Rattle.adjustment_rows.specs.Rows.{csvOf, PutsRows}
+use Rattle.file_list.specs.Line.{fileLine}
+use Rattle.card_program.specs.declared.verdict.Lines.{Lines}
+use Rattle.card_program.specs.Listing.{saidOf, wordsOf}
 use Rattle.card_program.specs.Outcome.{outcomeAt}
 use Rattle.card_program.specs.Verdict.{verdictText, outcomeText, descriptorOf}
 use Rattle.card_sheet.specs.SheetOf.{SheetOf}
 use Rattle.sale_field.specs.Field.{refusalOf, fieldOf, fieldRow}
 use Rattle.demands.specs.Feeding.{Call, feed, close, called}
-use Rattle.demands.specs.InChunks.{cardTaken, cardInChunks, copiedInChunks}
+use Rattle.demands.specs.InChunks.{cardTaken, cardInChunks, copiedInChunks, tabledInChunks}
 
 -- for feeding: equally many records, each the other's
 pub data AlikeLists (Alike : List ℕ → List ℕ → Type 0) : List (List ℕ) → List (List ℕ) → Type 0 where
@@ -70,13 +75,22 @@ pub record ToldAlike (AlikeRecords AlikeFiles : List ℕ → List ℕ → Type 0
       cardFileRow (card.answerOf (cardTaken edition cs)) ≡ cardFileRow (card.answerOf (cardTaken edition ds))
   pub written-so-far : (cs ds : List (List ℕ)) → ComeAlike AlikeFiles cs ds → copiedInChunks cs .written ≡ copiedInChunks ds .written
   -- the answer of that much, read as a whole file, and its text: by the contract of a program's work (`Checked`) its answer is that of the bytes that it took
-  pub taken-so-far : (edition : ℕ) (cs ds : List (List ℕ)) → ComeAlike AlikeFiles cs ds →
+  pub taken-so-far : (edition : ℕ) (lines : Lines) (cs ds : List (List ℕ)) → ComeAlike AlikeFiles cs ds →
       (cardFileRow (checkOf edition (joinedChunks cs)) ≡ cardFileRow (checkOf edition (joinedChunks ds))) ×
-      (verdictText (checkOf edition (joinedChunks cs)) ≡ verdictText (checkOf edition (joinedChunks ds)))
+      (verdictText lines (checkOf edition (joinedChunks cs)) ≡ verdictText lines (checkOf edition (joinedChunks ds)))
   -- what comes of the last read, whatever it gave: the text that a program prints of the file, and on which descriptor
-  pub printed : (edition : ℕ) (cs ds : List (List ℕ)) → ComeAlike AlikeFiles cs ds → (got : Got) →
-      (outcomeText (outcomeAt got (cardTaken edition cs)) ≡ outcomeText (outcomeAt got (cardTaken edition ds))) ×
+  pub printed : (edition : ℕ) (lines : Lines) (cs ds : List (List ℕ)) → ComeAlike AlikeFiles cs ds → (got : Got) →
+      (outcomeText lines (outcomeAt got (cardTaken edition cs)) ≡ outcomeText lines (outcomeAt got (cardTaken edition ds))) ×
       (descriptorOf (outcomeAt got (cardTaken edition cs)) ≡ descriptorOf (outcomeAt got (cardTaken edition ds)))
+  -- and its line among many, under whatever name, and how it is counted there
+  pub listed : (edition : ℕ) (cs ds : List (List ℕ)) → ComeAlike AlikeFiles cs ds → (got : Got) (name : List ℕ) →
+      (fileLine (wordsOf (outcomeAt got (cardTaken edition cs))) name ≡ fileLine (wordsOf (outcomeAt got (cardTaken edition ds))) name) ×
+      (saidOf (outcomeAt got (cardTaken edition cs)) ≡ saidOf (outcomeAt got (cardTaken edition ds)))
+  -- the CSV of a file's adjustments; the question that puts rows: its answer, and every byte that it leaves; and the rows that are written so far
+  pub csv : (s t : List ℕ) → AlikeFiles s t → csvOf s ≡ csvOf t
+  pub puts-rows : (number : ℕ) (s t out : List ℕ) → AlikeFiles s t → (answer-s answer-t : Rows) (after-s after-t : List ℕ) →
+      PutsRows number s out answer-s after-s → PutsRows number t out answer-t after-t → (answer-s ≡ answer-t) × (after-s ≡ after-t)
+  pub rows-so-far : (cs ds : List (List ℕ)) → ComeAlike AlikeFiles cs ds → tabledInChunks cs .written ≡ tabledInChunks ds .written
   -- the answer of a file's day sheet, and every byte of the output
   pub sheets : (edition : ℕ) (s t out : List ℕ) → AlikeFiles s t → (answer-s answer-t : CardAnswer) (after-s after-t : List ℕ) →
       SheetOf edition s out answer-s after-s → SheetOf edition t out answer-t after-t → (cardFileRow answer-s ≡ cardFileRow answer-t) × (after-s ≡ after-t)

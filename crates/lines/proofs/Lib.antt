@@ -2,3 +2,4 @@ pub mod Search
 pub mod Cuts
 pub mod Ends
 mod Clear
+pub mod Finished

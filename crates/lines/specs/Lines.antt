@@ -3,7 +3,7 @@ use Prim.Native.Nat.{ℕ, suc}
 use mathlib.Core.Path.{_≡_}
 use mathlib.Core.List.{List, [], _∷_, _++_}
 use mathlib.Core.Bool.{Bool, true, false, cond, _&&_}
-use lib.ListN.{drop}
+use lib.ListN.{length, drop}
 use lib.Dec.{eqb}
 use Rattle.lines.specs.declared.Found.{Found}
 use Rattle.lines.specs.declared.Found.the-variants.{At, Nowhere}
@@ -33,6 +33,10 @@ cut (b ∷ s) = cond (eqb b lf) (record { pieces = [] ∷ cut s .pieces; rest = 
 unfoldable pub rejoined : List (List ℕ) → List ℕ → List ℕ
 rejoined [] rest = rest
 rejoined (p ∷ ps) rest = p ++ (lf ∷ rejoined ps rest)
+
+-- how many bytes the finished lines of some bytes take, each with its LF
+abbrev pub finishedIn : List ℕ → ℕ
+finishedIn s = length (rejoined (cut s .pieces) [])
 
 -- "records without LF": of one, and of all in a list
 unfoldable pub noLf : List ℕ → Bool

@@ -1,6 +1,8 @@
 // mask EDITION FILE OUT: writes the masked copy of an accepted card file to OUT, and prints the file's verdict.
+use card_copy::output::Output;
+use card_copy::work;
 use card_program::verdict;
-use mask_program::work;
+use card_program::verdict::Lines;
 use program::argument;
 use program::argument::Three;
 use program::mistake;
@@ -19,5 +21,8 @@ fn main() {
         mistake::tell(Mistake::TooLong);
         return;
     };
-    verdict::print(work::work(&edition[..a], &file[..b], &out[..c]));
+    verdict::print(
+        Lines::Sales,
+        work::work(Output::MaskedCopy, &edition[..a], &file[..b], &out[..c]),
+    );
 }

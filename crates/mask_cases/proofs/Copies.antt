@@ -7,9 +7,10 @@ use lib.ListN.{length, take, drop, length-take, take-append-drop, drop-of-length
 use lib.Seq.{length-take-le, take-at, drop-at, take-add, drop-drop, take-append-le, drop-append-le}
 use Rattle.cases.proofs.Parts.{part-then-rest, to-the-end}
 use Rattle.chunks.specs.Chunks.{joinedChunks}
-use Rattle.card_mask.specs.Masked.{maskedFile, finishedIn}
+use Rattle.lines.specs.Lines.{finishedIn}
+use Rattle.card_mask.specs.Masked.{maskedFile}
 use Rattle.card_mask.proofs.InChunks.{copied-as-whole, masked-length}
-use Rattle.card_mask.proofs.Finished.{finished-within}
+use Rattle.lines.proofs.Finished.{finished-within}
 use Rattle.mask_cases.specs.Copying.{between, MasksBetween}
 
 -- bytes masked, and those behind them with what waits, are all of them masked

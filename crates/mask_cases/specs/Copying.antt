@@ -5,7 +5,8 @@ use mathlib.Core.List.{List, _++_}
 use mathlib.Core.Bool.{cond}
 use lib.ListN.{length, take, drop}
 use lib.Dec.{leb, eqb}
-use Rattle.card_mask.specs.Masked.{maskedFile, finishedIn}
+use Rattle.lines.specs.Lines.{finishedIn}
+use Rattle.card_mask.specs.Masked.{maskedFile}
 use Rattle.card_run.specs.declared.answer.CardAnswer.{CardAnswer}
 use Rattle.card_run.specs.declared.answer.CardAnswer.the-variants.{GoingOn, Accepted, Refused}
 use Rattle.cases.specs.Hash.{hashFrom}

@@ -1,15 +1,16 @@
 // payroll < FILE: checks a payroll file, and prints its verdict.
+// payroll FILE..: checks many payroll files, and prints a line for each and the tally.
+use file_list::listed;
 use libc::STDIN_FILENO;
 use payroll_program::check;
+use payroll_program::list;
 use payroll_program::verdict;
-use program::mistake;
-use program::mistake::Mistake;
-use program::mistake::Program;
 
 fn main() {
-    if os::arg_count() != 1 {
-        mistake::tell(Mistake::Usage(Program::Payroll));
+    let count = os::arg_count();
+    if count < 2 {
+        verdict::print(check::check(STDIN_FILENO));
         return;
     }
-    verdict::print(check::check(STDIN_FILENO));
+    listed::print(list::list(count));
 }

@@ -2,6 +2,7 @@
 ghost use Rattle.payroll_program.specs.Checked.{Checked};
 use crate::outcome;
 use crate::outcome::PayrollOutcome;
+use files::error;
 use files::reading;
 use files::reading::Got;
 use payroll_stream::Stream;
@@ -34,4 +35,17 @@ pub fn check(fd: i32) -> PayrollOutcome
 {
     let mut buffer = io::large_buffer();
     check_by(fd, &mut buffer)
+}
+
+// Checks the payroll file of a name.
+pub fn check_file(file: &[u8]) -> PayrollOutcome
+    ensures { λ r. ⌜ Checked r ⌝ }
+{
+    let fd = os::open_read(file);
+    if fd < 0 {
+        return PayrollOutcome::Mistake(Mistake::System(Failed::Open, error::number()));
+    }
+    let outcome = check(fd);
+    libc::close(fd);
+    outcome
 }

@@ -1,4 +1,5 @@
-// The work of the program `payroll`: from a descriptor to an outcome, and from an outcome to what is printed.
+// The work of the program `payroll`: from a descriptor or names to outcomes, and from an outcome to what is printed.
 pub mod check;
+pub mod list;
 pub mod outcome;
 pub mod verdict;

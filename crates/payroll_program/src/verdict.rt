@@ -18,7 +18,7 @@ use wording::put;
 const ROOM: usize = 256;
 
 // Each function here puts its text behind the first `at` bytes, and answers how many bytes stand there then. First the lines of an accepted file.
-fn put_accepted(accepted: Accepted, out: &mut [u8], at: usize) -> usize
+pub(crate) fn put_accepted(accepted: Accepted, out: &mut [u8], at: usize) -> usize
     ensures { λ r. ⌜ Puts (acceptedText accepted) (now (out .entry)) at r (now (out .exit)) ⌝ }
 {
     let word = put::text(b"ACCEPTED\n", out, at);

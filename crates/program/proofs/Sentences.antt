@@ -5,7 +5,7 @@ use lib.Dec.{lit≤, eqb}
 use lib.ListN.{length, length-append}
 use Rattle.text.specs.Literal.{ascii}
 use Rattle.wording.proofs.Lengths.{either, line-short}
-use Rattle.program.specs.declared.mistake.Program.the-variants.{Card, Mask, Payroll, Sheet}
+use Rattle.program.specs.declared.mistake.Program.the-variants.{Card, Mask, Sheet, Adjustments}
 use Rattle.program.specs.declared.mistake.Failed.the-variants.{Open, Read, Write, Sync, Print}
 use Rattle.program.specs.declared.mistake.Failed.{Failed}
 use Rattle.program.specs.declared.mistake.Mistake.{Mistake}
@@ -43,8 +43,8 @@ failed-short Print = lit≤ tt
 pub sentence-short : (mistake : Mistake) → length (sentenceOf mistake) ≤ 256
 sentence-short (Usage Card) = lit≤ tt
 sentence-short (Usage Mask) = lit≤ tt
-sentence-short (Usage Payroll) = lit≤ tt
 sentence-short (Usage Sheet) = lit≤ tt
+sentence-short (Usage Adjustments) = lit≤ tt
 sentence-short TooLong = lit≤ tt
 sentence-short EditionNoNumber = lit≤ tt
 sentence-short OutNoFile = lit≤ tt

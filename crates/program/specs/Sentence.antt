@@ -3,7 +3,7 @@ use Prim.Native.Nat.{ℕ}
 use mathlib.Core.List.{List, _++_}
 use Rattle.text.specs.Literal.{ascii}
 use Rattle.program.specs.declared.mistake.Program.{Program}
-use Rattle.program.specs.declared.mistake.Program.the-variants.{Card, Mask, Payroll, Sheet}
+use Rattle.program.specs.declared.mistake.Program.the-variants.{Card, Mask, Sheet, Adjustments}
 use Rattle.program.specs.declared.mistake.Failed.{Failed}
 use Rattle.program.specs.declared.mistake.Failed.the-variants.{Open, Read, Write, Sync, Print}
 use Rattle.program.specs.declared.mistake.Mistake.{Mistake}
@@ -12,10 +12,10 @@ use Rattle.program.specs.Reason.{reasonOf}
 
 -- the arguments of each program
 abbrev pub argumentsOf : Program → List ℕ
-argumentsOf Card = ascii "card EDITION < FILE, where EDITION is 2\n"
+argumentsOf Card = ascii "card EDITION < FILE, or card EDITION FILE.., where EDITION is 2\n"
 argumentsOf Mask = ascii "mask EDITION FILE OUT, where EDITION is 2\n"
-argumentsOf Payroll = ascii "payroll < FILE\n"
 argumentsOf Sheet = ascii "sheet EDITION FILE OUT, where EDITION is 2, or sheet --convert FILE OUT, or sheet FILE\n"
+argumentsOf Adjustments = ascii "adjustments EDITION < FILE, or adjustments EDITION FILE OUT, where EDITION is 2\n"
 
 -- what the system did not do, before the reason that it gives
 abbrev pub failedOf : Failed → List ℕ

@@ -6,11 +6,12 @@ use crate::reason;
 use libc::STDERR_FILENO;
 use wording::put::text;
 
+// A program that can be called wrongly: `payroll` takes any names.
 pub enum Program {
     Card,
     Mask,
-    Payroll,
     Sheet,
+    Adjustments,
 }
 
 // What the system did not do.
@@ -44,11 +45,19 @@ fn put_arguments(program: Program, out: &mut [u8], at: usize) -> usize
     ensures { λ r. ⌜ Puts (argumentsOf program) (now (out .entry)) at r (now (out .exit)) ⌝ }
 {
     match program {
-        Program::Card => text(b"card EDITION < FILE, where EDITION is 2\n", out, at),
+        Program::Card => text(
+            b"card EDITION < FILE, or card EDITION FILE.., where EDITION is 2\n",
+            out,
+            at,
+        ),
         Program::Mask => text(b"mask EDITION FILE OUT, where EDITION is 2\n", out, at),
-        Program::Payroll => text(b"payroll < FILE\n", out, at),
         Program::Sheet => text(
             b"sheet EDITION FILE OUT, where EDITION is 2, or sheet --convert FILE OUT, or sheet FILE\n",
+            out,
+            at,
+        ),
+        Program::Adjustments => text(
+            b"adjustments EDITION < FILE, or adjustments EDITION FILE OUT, where EDITION is 2\n",
             out,
             at,
         ),

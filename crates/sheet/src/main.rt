@@ -1,6 +1,7 @@
 // sheet EDITION FILE OUT: writes the day sheet of an accepted card file to OUT, and prints the file's verdict.
 // sheet --convert FILE OUT: writes a day sheet to OUT in the other version, and prints the numbers of that one.
 // sheet FILE: prints the numbers of a day sheet.
+use card_program::verdict::Lines;
 use program::argument;
 use program::argument::Argument;
 use program::argument::Three;
@@ -26,7 +27,7 @@ fn save_sheet(first: &[u8], file: &[u8], out: &[u8]) {
         verdict::print(convert::convert(file, out));
         return;
     }
-    card_program::verdict::print(work::work(first, file, out));
+    card_program::verdict::print(Lines::Sales, work::work(first, file, out));
 }
 
 // Saves a sheet of the file that the second argument names in the one that the third does.

@@ -12,7 +12,6 @@ use card_run::answer::CardAnswer;
 use day_sheet::layout;
 use day_sheet::writer;
 use day_sheet::writer::SheetWritten;
-use files::error;
 use out_file::place;
 use out_file::saved::Saved;
 use program::mistake::Failed;
@@ -51,24 +50,11 @@ fn save_answer(edition: u64, answer: CardAnswer, out: &[u8]) -> Outcome
     }
 }
 
-// Checks the card file of a name.
-fn check_file(edition: u64, file: &[u8]) -> Outcome
-    ensures { λ r. ⌜ Checked edition r ⌝ }
-{
-    let fd = os::open_read(file);
-    if fd < 0 {
-        return Outcome::Mistake(Mistake::System(Failed::Open, error::number()));
-    }
-    let outcome = check::check(edition, fd);
-    libc::close(fd);
-    outcome
-}
-
 // Checks the card file of a name, and saves its sheet.
 fn write_file(edition: u64, file: &[u8], out: &[u8]) -> Outcome
     ensures { λ r. ⌜ Checked edition r ⌝ }
 {
-    let outcome = check_file(edition, file);
+    let outcome = check::check_file(edition, file);
     match outcome {
         Outcome::Mistake(_) => outcome,
         Outcome::Answer(answer) => save_answer(edition, answer, out),

@@ -16,14 +16,14 @@ pub either : (test : Bool) (s t : List ℕ) (n : ℕ) → length s ≤ n → len
 either true s t n h k = h
 either false s t n h k = k
 
-digits-short : (places n : ℕ) → length (digitsWithin places n) ≤ places
+pub digits-short : (places n : ℕ) → length (digitsWithin places n) ≤ places
 unfolding digitsWithin
 digits-short zero n = omega arith
 digits-short (suc places) n =
     either (ltb n 10) _ _ (suc places) (omega arith)
     (omega (arith, length-append (digitsWithin places (n / 10)) ((48 + n % 10) ∷ []), digits-short places (n / 10)))
 
-word-short : (name : List ℕ) (n : ℕ) → length (wordOf name n) ≤ length name + 21
+pub word-short : (name : List ℕ) (n : ℕ) → length (wordOf name n) ≤ length name + 21
 unfolding wordOf
 word-short name n = omega (arith, length-append name (ascii " " ++ decimalOf n), digits-short 20 n)
 

@@ -23,7 +23,7 @@ same-length (suc at) t [] = refl
 same-length (suc at) t (b ∷ s) = ap suc (same-length at t s)
 
 -- no text changes nothing
-none : (at : ℕ) (s : List ℕ) → overAt at [] s ≡ s
+pub none : (at : ℕ) (s : List ℕ) → overAt at [] s ≡ s
 unfolding overAt over
 none zero [] = refl
 none zero (b ∷ s) = refl
@@ -119,10 +119,10 @@ pub record Done (text before : List ℕ) (at : ℕ) (after : List ℕ) (end i : 
 pub begun : (text before : List ℕ) (at : ℕ) → at < length before → Done text before at before at 0
 begun text before at h = record { inside = omega arith; place = omega arith; taken = omega arith; length-kept = refl; left = refl }
 
-pub one-more : {text before after : List ℕ} {at end i : ℕ} → i < length text → end < length after → Done text before at after end i →
-    Done text before at (set after end (getD text i 0)) (end + 1) (i + 1)
-one-more {text} {before} {after} {at} {end} {i} h k d =
-    let l = length-set after end (getD text i 0) in
+pub one-more : {text before after : List ℕ} {at end i : ℕ} (byte other : ℕ) → byte ≡ getD text i other → i < length text → end < length after →
+    Done text before at after end i → Done text before at (set after end byte) (end + 1) (i + 1)
+one-more {text} {before} {after} {at} {end} {i} byte other is h k d =
+    let l = length-set after end byte in
     let e : end + 1 ≡ suc end = omega arith in
     let f : i + 1 ≡ suc i = omega arith in
     record {
@@ -131,7 +131,8 @@ one-more {text} {before} {after} {at} {end} {i} h k d =
       taken = omega arith;
       length-kept = l ∙ d .length-kept;
       left =
-          rw (e, f) (sym (one-byte end (getD text i 0) (drop (suc i) text) after k) ∙ ap (λ (t : List ℕ). overAt end t after) (sym (drop-cons text i 0 h)) ∙ d .left);
+          rw (e, f) (sym (one-byte end byte (drop (suc i) text) after k) ∙ ap (λ (b : ℕ). overAt end (b ∷ drop (suc i) text) after) is ∙
+          ap (λ (t : List ℕ). overAt end t after) (sym (drop-cons text i other h)) ∙ d .left);
     }
 
 -- at the end of the text, and of the buffer

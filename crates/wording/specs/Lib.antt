@@ -1,3 +1,4 @@
 pub mod Put
 pub mod Number
 pub mod Line
+pub mod Shown

@@ -5,7 +5,7 @@ use crate::put;
 use refusal::Refusal;
 
 // A word, a blank and a number.
-fn word(name: &[u8], number: u64, out: &mut [u8], at: usize) -> usize
+pub fn word(name: &[u8], number: u64, out: &mut [u8], at: usize) -> usize
     ensures { λ r. ⌜ Puts (wordOf (now (name .entry)) number) (now (out .entry)) at r (now (out .exit)) ⌝ }
 {
     let behind_name = put::text(name, out, at);

@@ -22,6 +22,8 @@ use Rattle.answers.proofs.Variants.{variants}
 use Rattle.answers.proofs.Programs.{programs}
 use Rattle.answers.proofs.Saving.{saving}
 use Rattle.answers.proofs.Texts.{texts}
+use Rattle.answers.proofs.AdjustmentRows.{adjustment-rows}
+use Rattle.answers.proofs.FileList.{file-list}
 use Rattle.answers.proofs.held_to_account.Statement.{statement}
 use Rattle.answers.proofs.held_to_account.Tie as tie
 
@@ -51,6 +53,8 @@ returns c =
       programs = programs;
       saving = saving;
       texts = texts;
+      adjustment-rows = adjustment-rows;
+      file-list = file-list;
     }
 
 pub held-to-account-spec : {M : Type 1} → statement M

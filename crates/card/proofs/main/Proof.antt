@@ -4,12 +4,6 @@ use borrow.Author.Needs.{needs}
 use Rattle.card.proofs.main.Statement.{statement}
 use Rattle.card.proofs.main.Tie as tie
 
-array-share-prefix-edition : tie.Need-array-share-prefix-edition
-array-share-prefix-edition c = given _ _ _ (c .before .before .before .before .read .ensures) (c .before .size .given .1) .0
-
-slice-aggregate-work : tie.Need-slice-aggregate-work
-slice-aggregate-work c = given _ _ _ (c .before .before .before .before .before .read .ensures) (c .before .before .size .given .1) .1
-
 pub main-spec : {M : Type 1} → statement M
 main-spec =
     tie.close
@@ -24,8 +18,13 @@ main-spec =
     (λ c. search needs)
     (λ c κs. tt)
     (λ c. tt)
-    array-share-prefix-edition
-    slice-aggregate-work
+    (λ c. given _ _ _ (c .before .before .before .before .before .read .ensures) (c .before .before .size .given .1) .0)
+    (λ c. given _ _ _ (c .before .before .before .before .before .before .read .ensures) (c .before .before .before .size .given .1) .1)
+    (λ c κs. tt)
+    (λ c κs. tt)
+    (λ c. tt)
+    (λ c. given _ _ _ (c .before .before .before .before .before .read .ensures) (c .before .before .size .given .1) .0)
+    (λ c. given _ _ _ (c .before .before .before .before .before .before .read .ensures) (c .before .before .before .size .given .1) .1)
     (λ c κs. tt)
     (λ c κs. tt)
     (λ c. tt))

@@ -10,7 +10,8 @@ use lib.ListN.{length, take}
 use Rattle.lines.specs.declared.Found.the-variants.{At}
 use Rattle.lines.specs.Lines.{nextLf}
 use Rattle.lines.proofs.Cuts.{at-inside}
-use Rattle.card_mask.proofs.Copies.{none-left, nothing-left, none-finished, nothing-finished, Sofar, begun, passed, finished}
+use Rattle.lines.proofs.Finished.{none-finished, nothing-finished}
+use Rattle.card_mask.proofs.Copies.{none-left, nothing-left, Sofar, begun, passed, finished}
 use Rattle.card_mask.proofs.mask_lines.Statement.{statement}
 use Rattle.card_mask.proofs.mask_lines.Tie as tie
 

@@ -3,6 +3,7 @@ use Rattle.edition.proofs.Editions.{unknown-fault, retired-fault}
 use Rattle.card_run.specs.Answer.{answerOf, cardFileRow}
 use Rattle.card_run.specs.declared.answer.CardAnswer.the-variants.{Refused}
 use Rattle.card_run.proofs.FileRows.{same-answer, refusal-told, is-accepted}
+use Rattle.file_list.proofs.Lines.{one-line}
 use Rattle.card_kept.proofs.FirstFault.{first-fault-of-record, first-fault-decides}
 use Rattle.card_kept.proofs.Limits.{millionth-record, sum-of-no-trailer}
 use Rattle.card_kept.proofs.State.{state-known}
@@ -20,6 +21,7 @@ use Rattle.demands.proofs.HiddenDigitsExample.{twins-that-differ, credi
 use Rattle.demands.proofs.InChunks.{as-the-whole, after-the-end}
 use Rattle.demands.proofs.LentBuffers.{refused-leaves-alone}
 use Rattle.demands.proofs.MaskTwice.{mask-twice}
+use Rattle.demands.proofs.RowsOfFile.{rows-of-file}
 use Rattle.demands.proofs.RulesKept.{card-rules-kept, payroll-rules-kept}
 use Rattle.demands.proofs.SameWay.{same-ways}
 use Rattle.demands.proofs.TwinsMade.{twins-made}
@@ -47,6 +49,8 @@ returns c =
       sheet-there-and-back = sheet-there-and-back;
       sheet-converted = sheet-converted;
       sheet-of-file = sheet-of-file;
+      rows-of-file = rows-of-file;
+      one-line-each = one-line;
       fed-as-whole = fed-as-whole;
       refused-for-good = λ st refusal e. refused-for-good st refusal (same-answer (answerOf st) (Refused refusal) e);
       after-accepted-close = λ st e. after-accepted-close st _ (is-accepted (answerOf st) e);

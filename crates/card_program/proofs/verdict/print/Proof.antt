@@ -6,10 +6,10 @@ use Rattle.card_program.proofs.verdict.print.Statement.{statement}
 use Rattle.card_program.proofs.verdict.print.Tie as tie
 
 slice-aggregate-write : tie.Need-slice-aggregate-write
-slice-aggregate-write c = counted (outcome-short (c .before .before .before .before .args .outcome)) (c .before .before .put-outcome .ensures)
+slice-aggregate-write c = counted (outcome-short (c .before .before .before .before .args .lines) (c .before .before .before .before .args .outcome)) (c .before .before .put-outcome .ensures)
 
 write-requires : tie.Need-write-requires
-write-requires c κs = whole (outcome-short (c .before .before .before .before .args .outcome)) (c .before .before .put-outcome .ensures)
+write-requires c κs = whole (outcome-short (c .before .before .before .before .args .lines) (c .before .before .before .before .args .outcome)) (c .before .before .put-outcome .ensures)
 
 pub print-spec : {M : Type 1} → statement M
 print-spec =

@@ -7,10 +7,10 @@ use Rattle.card_program.proofs.verdict.put_outcome.Statement.{statement
 use Rattle.card_program.proofs.verdict.put_outcome.Tie as tie
 
 returns : tie.Need-returns
-returns c = reworded (ap outcomeText (sym (c .before .before .before .before .before .outcome .given .1))) (c .before .before .put-verdict .ensures)
+returns c = reworded (ap (outcomeText _) (sym (c .before .before .before .before .before .outcome .given .1))) (c .before .before .put-verdict .ensures)
 
 returns-2 : tie.Need-returns-2
-returns-2 c = reworded (ap outcomeText (sym (c .before .before .before .before .before .outcome2 .given .1))) (c .before .before .put .ensures)
+returns-2 c = reworded (ap (outcomeText _) (sym (c .before .before .before .before .before .outcome2 .given .1))) (c .before .before .put .ensures)
 
 pub put-outcome-spec : {M : Type 1} → statement M
 put-outcome-spec =

@@ -7,13 +7,13 @@ use Rattle.card_program.proofs.verdict.put_verdict.Statement.{statement
 use Rattle.card_program.proofs.verdict.put_verdict.Tie as tie
 
 returns : tie.Need-returns
-returns c = reworded (ap verdictText (sym (c .before .before .before .before .before .enum-told .given .1))) (c .before .before .text .ensures)
+returns c = reworded (ap (verdictText _) (sym (c .before .before .before .before .before .enum-told .given .1))) (c .before .before .text .ensures)
 
 returns-2 : tie.Need-returns-2
-returns-2 c = reworded (ap verdictText (sym (c .before .before .before .before .before .answer .given .1))) (c .before .before .put-accepted .ensures)
+returns-2 c = reworded (ap (verdictText _) (sym (c .before .before .before .before .before .answer .given .1))) (c .before .before .put-numbers .ensures)
 
 returns-3 : tie.Need-returns-3
-returns-3 c = reworded (ap verdictText (sym (c .before .before .before .before .before .answer2 .given .1))) (c .before .before .refused .ensures)
+returns-3 c = reworded (ap (verdictText _) (sym (c .before .before .before .before .before .answer2 .given .1))) (c .before .before .refused .ensures)
 
 pub put-verdict-spec : {M : Type 1} → statement M
 put-verdict-spec =

@@ -1,6 +1,6 @@
 -- `wording::put::text` meets its contract. The invariant: the rest of the text is still to be put behind what is done (`Done`).
 use Prim.Native.Nat.{_-_}
-use mathlib.Core.Path.{sym}
+use mathlib.Core.Path.{refl, sym}
 use native.Mathlib.Omega.{arith}
 use lib.ListN.{length}
 use borrow.Author.Needs.{needs}
@@ -21,7 +21,7 @@ loop-holds : tie.Need-loop-holds Inv-loop μ-loop
 loop-holds c = begun _ _ _ (search needs)
 
 loop-again : tie.Need-loop-again Inv-loop μ-loop
-loop-again c = one-more (c .before .before .loop-test .taken) (c .before .if2 .left) (c .before .before .before .loop .inv)
+loop-again c = one-more _ 0 refl (c .before .before .loop-test .taken) (c .before .if2 .left) (c .before .before .before .loop .inv)
 
 returns-2 : tie.Need-returns-2 Inv-loop μ-loop
 returns-2 c = all-put (c .loop-test .left) (c .before .loop .inv)

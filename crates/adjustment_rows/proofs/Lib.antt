@@ -1,0 +1,10 @@
+pub mod Clear
+pub mod Counted
+pub mod Doubling
+pub mod Fits
+pub mod InChunks
+pub mod Passing
+pub mod PutUpTo
+pub mod Quoted
+pub mod Separating
+pub mod WithoutCard

@@ -1,0 +1,4 @@
+pub mod Fields
+pub mod Row
+pub mod Rows
+pub mod InChunks

@@ -1,0 +1,4 @@
+pub mod Finished
+pub mod Hand
+pub mod Moves
+pub mod Waiting

@@ -1,3 +1,0 @@
-pub mod Finished
-pub mod Moves
-pub mod Waiting
