@@ -9,7 +9,7 @@ use lines::Found;
 use wording::put;
 
 // How many bytes the finished lines take, and how many bytes of the output are rows.
-#[derive(Drop)]
+#[derive(Clone, Copy)]
 pub struct Rows {
     pub lines: usize,
     pub size: usize,

@@ -1,5 +1,6 @@
 // adjustments EDITION < FILE: checks a card file, and prints the count and the net of its credits and of its debits.
 // adjustments EDITION FILE OUT: writes the adjustments of an accepted card file to OUT as CSV, and prints the same.
+#![tactic(auto)]
 use card_copy::output::Output;
 use card_program::verdict;
 use card_program::verdict::Lines;

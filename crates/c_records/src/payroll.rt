@@ -19,7 +19,7 @@ pub extern "C" fn lossivurn_payroll_open(state: &mut [u64; STATE_NUMBERS])
 }
 
 // What is done with the bytes that a call hands over.
-#[derive(Drop)]
+#[derive(Clone, Copy)]
 enum Call {
     Feed,
     Close,

@@ -1,4 +1,5 @@
 // Real days and times, as the files write them.
+#![tactic(auto)]
 pub mod day;
 pub mod month;
 pub mod time;

@@ -6,7 +6,7 @@ ghost use Rattle.calendar.specs.When.{written, when_rules};
 use refusal::{Cause, Fault};
 use text::number::Number;
 
-#[derive(Drop)]
+#[derive(Clone, Copy)]
 pub enum When {
     // Some byte is no digit.
     NotDigits,

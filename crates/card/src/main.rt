@@ -1,5 +1,6 @@
 // card EDITION < FILE: checks a card file, and prints its verdict.
 // card EDITION FILE..: checks many card files, and prints a line for each and the tally.
+#![tactic(auto)]
 use card_program::verdict::Lines;
 use card_program::{list, verdict, work};
 use file_list::listed;

@@ -10,7 +10,7 @@ use refusal::{Cause, Fault};
 use totals::amounts::Amounts;
 
 // What later rules and the totals need of it; not the card.
-#[derive(Drop)]
+#[derive(Clone, Copy)]
 pub struct Aj {
     pub adjustment_type: u64,
     pub amounts: Amounts,

@@ -1,5 +1,6 @@
 // Card files: prints the answer of each case, a line each, first of the outside cases and then of our own: read whole, then in chunks, and the small ones
 // of our own cut in two at every place; then of cases given record by record, of what no file of cases can say, and of single fields.
+#![tactic(auto)]
 ghost use Rattle.std.specs.Prelude.{◌+◌, ◌≤◌, min, length};
 
 use card_run::answer::CardAnswer;

@@ -14,7 +14,7 @@ use refusal::{Cause, Fault};
 use text::alphabet::Alphabet;
 
 // The contents that the tables name.
-#[derive(Drop)]
+#[derive(Clone, Copy)]
 pub enum Content {
     // N, also amounts, instalment numbers and NSEQ.
     Digits,
@@ -31,7 +31,7 @@ pub enum Content {
 }
 
 // The fields with a closed set of values.
-#[derive(Drop)]
+#[derive(Clone, Copy)]
 pub enum ClosedSet {
     Version,
     Processing,

@@ -9,7 +9,7 @@ use crate::content::Content;
 use refusal::{Cause, Fault};
 
 // The first and the last position, from 1, as the tables print them, and the content.
-#[derive(Drop)]
+#[derive(Clone, Copy)]
 pub struct Field(pub usize, pub usize, pub Content);
 
 impl Field {

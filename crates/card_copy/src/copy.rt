@@ -15,7 +15,7 @@ use out_file::draft::Draft;
 use program::mistake::{Failed, Mistake};
 
 // What comes of writing the lines of a chunk.
-#[derive(Drop)]
+#[derive(Clone, Copy)]
 enum Written {
     // All lines are written, and so many bytes of an unfinished one stand at the start of the buffer.
     Tail(usize),
@@ -45,7 +45,7 @@ fn write_lines(
 }
 
 // What comes once the lines of a chunk are written.
-#[derive(Drop)]
+#[derive(Clone, Copy)]
 enum Next {
     // The unfinished line stands in the buffer, up to the first place, and behind it what was read, up to the second.
     Bytes(usize, usize),

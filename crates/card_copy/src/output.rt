@@ -1,5 +1,5 @@
 // What is made of a card file's lines.
-#[derive(Drop)]
+#[derive(Clone, Copy)]
 pub enum Output {
     // The lines themselves, masked.
     MaskedCopy,

@@ -13,7 +13,7 @@ use files::error;
 use out_file::draft::Draft;
 
 // What comes of writing the finished lines of a chunk.
-#[derive(Drop)]
+#[derive(Clone, Copy)]
 pub(crate) enum Finished {
     // All of it is written, and the lines take so many bytes.
     Lines(usize),

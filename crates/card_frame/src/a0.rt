@@ -9,7 +9,7 @@ use card_content::field::Field;
 use refusal::{Cause, Fault};
 
 // What later rules and the answer need of it.
-#[derive(Drop)]
+#[derive(Clone, Copy)]
 pub struct A0 {
     pub date: u64,
     pub movement: u64,

@@ -9,7 +9,7 @@ use card_content::field::Field;
 use refusal::{Cause, Fault};
 
 // What later rules need of it.
-#[derive(Drop)]
+#[derive(Clone, Copy)]
 pub struct A9 {
     pub count: u64,
     pub nseq: u64,

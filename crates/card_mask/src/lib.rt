@@ -1,4 +1,5 @@
 // The masked copy of a card file.
+#![tactic(auto)]
 ghost use Rattle.std.specs.Prelude.{◌≡◌, ◌++◌, ◌≤◌, length, drop};
 ghost use Rattle.card_mask.specs.Masked.{masked_piece, masked_file, MasksLines};
 ghost use Rattle.card_mask.specs.Mask.{Masks};

@@ -7,7 +7,7 @@ use card_stream::Stream;
 use files::reading::Got;
 use program::mistake::{Failed, Mistake};
 
-#[derive(Drop)]
+#[derive(Clone, Copy)]
 pub enum Outcome {
     Answer(CardAnswer),
     Mistake(Mistake),

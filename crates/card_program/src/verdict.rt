@@ -24,7 +24,7 @@ use totals::two_sets::TwoSets;
 use wording::{line, put};
 
 // What is printed of an accepted file.
-#[derive(Drop)]
+#[derive(Clone, Copy)]
 pub enum Lines {
     // Its records, its batches, and the totals of its sales.
     Sales,

@@ -8,7 +8,7 @@ use card_adjustment::aj::Aj;
 use card_sale::cv::Cv;
 
 // The place, from 0, at which the card's 19 bytes begin, or that there is no card.
-#[derive(Drop)]
+#[derive(Clone, Copy)]
 pub enum CardPart {
     From(usize),
     Nowhere,

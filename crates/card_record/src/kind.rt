@@ -10,7 +10,7 @@ use card_frame::l0::L0;
 use card_frame::l9::L9;
 use card_sale::cv::Cv;
 
-#[derive(Drop)]
+#[derive(Clone, Copy)]
 pub enum Kind {
     A0,
     L0,
@@ -37,7 +37,7 @@ impl Kind {
 }
 
 // A record's kind, or none that is read.
-#[derive(Drop)]
+#[derive(Clone, Copy)]
 pub enum KindFound {
     Known(Kind),
     Unknown,

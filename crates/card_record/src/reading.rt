@@ -11,7 +11,7 @@ use card_frame::l9::L9;
 use card_sale::cv::Cv;
 use refusal::{Cause, Fault};
 
-#[derive(Drop)]
+#[derive(Clone, Copy)]
 pub enum Reading {
     // A kind that is not read.
     Unknown,

@@ -2,7 +2,7 @@
 ghost use Rattle.std.specs.Prelude.{◌≡◌};
 ghost use Rattle.card_run.specs.Adjusted.{no_adjustment, one_adjustment_more};
 
-#[derive(Drop)]
+#[derive(Clone, Copy)]
 pub struct Adjusted {
     pub count: u64,
     pub net: u64,

@@ -4,7 +4,7 @@ use refusal::Refusal;
 use totals::two_sets::TwoSets;
 
 // The numbers of an accepted file.
-#[derive(Drop)]
+#[derive(Clone, Copy)]
 pub struct Accepted {
     pub date: u64,
     pub movement: u64,
@@ -15,7 +15,7 @@ pub struct Accepted {
     pub debits: Adjusted,
 }
 
-#[derive(Drop)]
+#[derive(Clone, Copy)]
 pub enum CardAnswer {
     // Nothing is refused so far, and the file is not closed.
     GoingOn,

@@ -2,7 +2,7 @@
 ghost use Rattle.std.specs.Prelude.{◌≡◌};
 ghost use Rattle.card_run.specs.Batch.{no_transaction, one_added, one_taken, sums_to};
 
-#[derive(Drop)]
+#[derive(Clone, Copy)]
 pub struct OpenBatch {
     pub transactions: u64,
     pub added: u64,

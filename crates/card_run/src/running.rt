@@ -19,7 +19,7 @@ use refusal::{Cause, Fault, Refusal};
 use totals::two_sets::TwoSets;
 
 // `numbers` are of the records that have come so far: the answer, once the file is accepted.
-#[derive(Drop)]
+#[derive(Clone, Copy)]
 pub struct Running {
     pub stage: Stage,
     pub edition: u64,

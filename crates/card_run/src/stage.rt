@@ -5,7 +5,7 @@ ghost use Rattle.card_run.specs.Stage.{is_open, placed};
 use card_record::kind::Kind;
 use refusal::Refusal;
 
-#[derive(Drop)]
+#[derive(Clone, Copy)]
 pub enum Stage {
     // Nothing has come.
     Start,

@@ -21,7 +21,7 @@ use refusal::{Cause, Fault};
 use totals::amounts::Amounts;
 
 // What later rules and the totals need of it; not the card.
-#[derive(Drop)]
+#[derive(Clone, Copy)]
 pub struct Cv {
     pub launch_type: u64,
     pub sale: Amounts,

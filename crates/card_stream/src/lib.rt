@@ -1,4 +1,5 @@
 // A card file that comes in chunks of any size: the running state by value, and one unfinished record.
+#![tactic(auto)]
 ghost use Rattle.std.specs.Prelude.{◌≡◌, drop};
 ghost use Rattle.card_stream.specs.Stream.{open_of, lines_taken, taken_of, ended_of, behind_end, answer_of};
 
@@ -9,7 +10,7 @@ use chunks::Unfinished;
 use lines::Found;
 use refusal::Cause;
 
-#[derive(Drop)]
+#[derive(Clone, Copy)]
 pub struct Stream {
     pub state: Running,
     pub held: Unfinished,

@@ -8,7 +8,7 @@ use text::part::part_of;
 use totals::sum::added;
 
 // A number that stands in a buffer, and the place behind it, which lies behind the buffer where the number is cut short.
-#[derive(Drop)]
+#[derive(Clone, Copy)]
 pub struct Number {
     pub value: u64,
     pub behind: usize,

@@ -5,7 +5,7 @@ ghost use Rattle.cases.specs.Hash.{hash_from};
 
 use crate::hash;
 
-#[derive(Drop)]
+#[derive(Clone, Copy)]
 pub struct Cuts {
     pub state: u64,
 }

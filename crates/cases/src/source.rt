@@ -4,14 +4,14 @@ ghost use Rattle.io.specs.Counts.{IsPrefixLen};
 use crate::{file, print};
 
 // Where cases come from.
-#[derive(Drop)]
+#[derive(Clone, Copy)]
 pub enum Source {
     Outside,
     Own,
 }
 
 // How a file is given to the library.
-#[derive(Drop)]
+#[derive(Clone, Copy)]
 pub enum Way {
     Whole,
     InChunks,

@@ -1,4 +1,5 @@
 // What is held of a piece whose LF has not come, while a file comes in chunks of any size.
+#![tactic(auto)]
 ghost use Rattle.std.specs.Prelude.{◌≡◌, [], ◌++◌, min, length};
 ghost use Rattle.chunks.specs.Unfinished.{held_by, holding, clipped, clipped_with};
 
@@ -6,7 +7,7 @@ ghost use Rattle.chunks.specs.Unfinished.{held_by, holding, clipped, clipped_wit
 pub const ROOM: usize = 242;
 
 // Any length is taken: one past the buffer stands for all of it.
-#[derive(Drop)]
+#[derive(Clone, Copy)]
 pub struct Unfinished {
     pub bytes: [u8; ROOM],
     pub length: usize,

@@ -35,7 +35,7 @@ pub const FORECAST: usize = 10;
 // How many numbers the table has; version 1 ends before the split.
 pub const PLACES: usize = 14;
 
-#[derive(Drop)]
+#[derive(Clone, Copy)]
 pub enum Version {
     One,
     Two,
@@ -74,7 +74,7 @@ impl Version {
 }
 
 // A number's place: how many bytes it takes, and in which form.
-#[derive(Drop)]
+#[derive(Clone, Copy)]
 pub struct Place {
     pub width: usize,
     pub form: Form,

@@ -5,7 +5,7 @@ ghost use Rattle.day_sheet.specs.Number.{base, zero_byte, in_base, put_at, value
 use text::alphabet::Alphabet;
 
 // How a number's digits are written.
-#[derive(Drop)]
+#[derive(Clone, Copy)]
 pub enum Form {
     Bytes,
     Digits,

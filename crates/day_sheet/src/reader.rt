@@ -9,7 +9,7 @@ use crate::{layout, places, row};
 use refusal::{Cause, Refusal};
 use sheet_numbers::sheet::Sheet;
 
-#[derive(Drop)]
+#[derive(Clone, Copy)]
 pub enum SheetRead {
     Read(Sheet),
     Refused(Refusal),

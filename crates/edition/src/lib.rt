@@ -1,4 +1,5 @@
 // The edition: which are known, and what a word states, any number of decimal digits.
+#![tactic(auto)]
 ghost use Rattle.std.specs.Prelude.{◌≡◌, true, min};
 ghost use Rattle.text.specs.Alphabet.{holds_only};
 ghost use Rattle.text.specs.Number.{value_of};
@@ -9,7 +10,7 @@ pub mod known;
 
 use text::alphabet::Alphabet;
 
-#[derive(Drop)]
+#[derive(Clone, Copy)]
 pub enum Edition {
     Of(u64),
     // No digit at all, or another byte among them.

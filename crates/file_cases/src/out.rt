@@ -4,7 +4,7 @@ use files::reading;
 use files::reading::Loaded;
 
 // How the content of a file is printed.
-#[derive(Drop)]
+#[derive(Clone, Copy)]
 pub enum Shown {
     Lines,
     Hex,

@@ -9,7 +9,7 @@ use libc::STDOUT_FILENO;
 use program::mistake;
 use program::mistake::{Failed, Mistake};
 
-#[derive(Drop)]
+#[derive(Clone, Copy)]
 pub enum Listed {
     // Every file has its line.
     Files(Tally),

@@ -7,7 +7,7 @@ use totals::sum;
 use wording::line;
 
 // What is said of one file.
-#[derive(Drop)]
+#[derive(Clone, Copy)]
 pub enum Said {
     Accepted,
     Refused,
@@ -15,7 +15,7 @@ pub enum Said {
     Unreadable,
 }
 
-#[derive(Drop)]
+#[derive(Clone, Copy)]
 pub struct Tally {
     pub files: u64,
     pub accepted: u64,

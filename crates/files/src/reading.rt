@@ -6,7 +6,7 @@ ghost use Rattle.files.specs.Reading.{got_of};
 use crate::error;
 
 // What one read means: an error, which has its number, is not the end.
-#[derive(Drop)]
+#[derive(Clone, Copy)]
 pub enum Got {
     Bytes(usize),
     End,
@@ -14,7 +14,7 @@ pub enum Got {
 }
 
 // What reading a whole file answers.
-#[derive(Drop)]
+#[derive(Clone, Copy)]
 pub enum Loaded {
     // So many bytes, at the start of the buffer.
     Bytes(usize),

@@ -1,4 +1,5 @@
 // mask EDITION FILE OUT: writes the masked copy of an accepted card file to OUT, and prints the file's verdict.
+#![tactic(auto)]
 use card_copy::output::Output;
 use card_copy::work;
 use card_program::verdict;

@@ -1,5 +1,6 @@
 // Masked copies: prints the answer of each case and the hash of its output, a line each, first of the outside cases and then of our own: of files read
 // whole, then in chunks, and of the small ones of our own cut in two at every place.
+#![tactic(auto)]
 ghost use Rattle.std.specs.Prelude.{◌+◌, ◌≤◌, min, length};
 
 use cases::cursor::{EDITION_BYTES, LENGTH_BYTES};

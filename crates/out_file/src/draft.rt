@@ -10,7 +10,7 @@ use files::error;
 
 // A file in the making: its descriptor, the mark in its temporary name, the call that comes next, and the number of the error that the first call that
 // failed left, 0 before.
-#[derive(Drop)]
+#[derive(Clone, Copy)]
 pub struct Draft {
     pub fd: i32,
     pub mark: [u8; beside::MARK],

@@ -1,4 +1,5 @@
 // The file that a program writes: made under a temporary name, and given its own only when it is whole.
+#![tactic(auto)]
 mod beside;
 mod call;
 pub mod draft;

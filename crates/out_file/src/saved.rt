@@ -6,7 +6,7 @@ use crate::draft::Draft;
 use crate::step::Step;
 use program::mistake::{Failed, Mistake};
 
-#[derive(Drop)]
+#[derive(Clone, Copy)]
 pub enum Saved {
     Kept,
     Told(Mistake),

@@ -3,7 +3,7 @@ ghost use Rattle.std.specs.Prelude.{◌≡◌};
 ghost use Rattle.out_file.specs.Saving.{next_of, if_well, after_write, is_resting};
 
 // The next call for a file that is to take its path, or one of three ends.
-#[derive(Drop)]
+#[derive(Clone, Copy)]
 pub enum Step {
     // Makes it under a temporary name.
     Create,
@@ -29,7 +29,7 @@ pub enum Step {
 }
 
 // How the last call went.
-#[derive(Drop)]
+#[derive(Clone, Copy)]
 pub enum Went {
     Well,
     // Only of a write: all is written, and the file is to stay.

@@ -1,4 +1,5 @@
 // One card field: whether it is well formed, its valid characters, its hidden places, and the field masked in place.
+#![tactic(auto)]
 ghost use Rattle.std.specs.Prelude.{◌≡◌};
 ghost use Rattle.text.specs.Part.{PartOf};
 ghost use Rattle.pan.specs.CardField.{well_formed, leading_zeros, valid_characters};
@@ -22,7 +23,7 @@ const FRONT_OF_SHORT: usize = 4;
 const LAST: usize = 4;
 
 // The places from `from` up to, and without, `to`.
-#[derive(Drop)]
+#[derive(Clone, Copy)]
 pub struct Places {
     pub from: usize,
     pub to: usize,

@@ -1,5 +1,6 @@
 // payroll < FILE: checks a payroll file, and prints its verdict.
 // payroll FILE..: checks many payroll files, and prints a line for each and the tally.
+#![tactic(auto)]
 use file_list::listed;
 use libc::STDIN_FILENO;
 use payroll_program::{check, list, verdict};

@@ -7,7 +7,7 @@ ghost use Rattle.payroll_cases.specs.Record.{record_of};
 use crate::{kinds, record};
 
 // A file: batches that differ only in their number, each of so many payments of one amount, with this sum in its trailer.
-#[derive(Drop)]
+#[derive(Clone, Copy)]
 pub struct Plan {
     pub batches: u32,
     pub payments: u32,

@@ -1,5 +1,6 @@
 // Payroll files: prints the answer of each case, a line each, first of the outside cases, then of our own, then of files that are made here, whole and record
 // by record; and again of both in chunks, and the small ones of our own cut in two at every place.
+#![tactic(auto)]
 ghost use Rattle.std.specs.Prelude.{◌+◌, ◌≤◌, min, length};
 
 use cases::cursor::LENGTH_BYTES;

@@ -4,7 +4,7 @@ ghost use Rattle.payroll_cases.specs.Record.{digits_of, with_field, with_numbers
 ghost use Rattle.payroll_cases.specs.Made.{made, put_behind};
 
 // A number that stands behind the first `first` bytes of a record, up to the `last` one.
-#[derive(Drop)]
+#[derive(Clone, Copy)]
 pub struct Field {
     pub first: usize,
     pub last: usize,
@@ -12,7 +12,7 @@ pub struct Field {
 }
 
 // A record of a kind in a batch: its letter, a blank where the kind has none, and up to three numbers.
-#[derive(Drop)]
+#[derive(Clone, Copy)]
 pub struct Record {
     pub kind: u64,
     pub batch: u64,

@@ -2,7 +2,7 @@
 use refusal::Refusal;
 
 // The numbers of an accepted file; the amount is in centavos.
-#[derive(Drop)]
+#[derive(Clone, Copy)]
 pub struct Accepted {
     pub records: u64,
     pub batches: u64,
@@ -10,7 +10,7 @@ pub struct Accepted {
     pub amount: u64,
 }
 
-#[derive(Drop)]
+#[derive(Clone, Copy)]
 pub enum PayrollAnswer {
     Accepted(Accepted),
     Refused(Refusal),

@@ -1,3 +1,4 @@
 // A payroll file read whole, and its answer.
+#![tactic(auto)]
 pub mod answer;
 pub mod file;

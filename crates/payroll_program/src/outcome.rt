@@ -7,7 +7,7 @@ use payroll_file::answer::PayrollAnswer;
 use payroll_stream::{Progress, Stream};
 use program::mistake::{Failed, Mistake};
 
-#[derive(Drop)]
+#[derive(Clone, Copy)]
 pub enum PayrollOutcome {
     Answer(PayrollAnswer),
     Mistake(Mistake),

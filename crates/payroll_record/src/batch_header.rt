@@ -7,7 +7,7 @@ use refusal::Fault;
 use text::number::Number;
 
 // The fault in front of its batch number, and that number.
-#[derive(Drop)]
+#[derive(Clone, Copy)]
 pub struct BatchHeader {
     pub front: Fault,
     pub batch: Number,

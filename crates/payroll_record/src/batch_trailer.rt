@@ -7,7 +7,7 @@ use refusal::Fault;
 use text::number::Number;
 
 // The fault in front of its batch number, that number, and what it counts and sums.
-#[derive(Drop)]
+#[derive(Clone, Copy)]
 pub struct BatchTrailer {
     pub front: Fault,
     pub batch: Number,

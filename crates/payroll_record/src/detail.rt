@@ -8,7 +8,7 @@ use refusal::Fault;
 use text::number::Number;
 
 // The fault in front of its batch number, that number, its detail number, the fault behind it, and a payment's amount.
-#[derive(Drop)]
+#[derive(Clone, Copy)]
 pub struct Detail {
     pub segment: Kind,
     pub front: Fault,

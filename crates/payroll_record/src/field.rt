@@ -10,7 +10,7 @@ use text::alphabet::Alphabet;
 use text::number::Number;
 
 // The first and the last position, from 1, as the tables print them.
-#[derive(Drop)]
+#[derive(Clone, Copy)]
 pub struct Field(pub usize, pub usize);
 
 // The width of every record.

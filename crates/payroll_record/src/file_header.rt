@@ -7,7 +7,7 @@ use crate::field::Field;
 use refusal::{Cause, Fault};
 
 // Its first fault, and whether the file is a return, in which a Z may stand.
-#[derive(Drop)]
+#[derive(Clone, Copy)]
 pub struct FileHeader {
     pub fault: Fault,
     pub is_return: bool,

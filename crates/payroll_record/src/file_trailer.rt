@@ -8,7 +8,7 @@ use refusal::{Cause, Fault};
 use text::number::Number;
 
 // The fault in front of its counts, and these.
-#[derive(Drop)]
+#[derive(Clone, Copy)]
 pub struct FileTrailer {
     pub front: Fault,
     pub batches: Number,

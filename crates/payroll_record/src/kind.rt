@@ -4,7 +4,7 @@ ghost use Rattle.payroll_record.specs.Kind.{segment_of, kind_of};
 
 use crate::field::Field;
 
-#[derive(Drop)]
+#[derive(Clone, Copy)]
 pub enum Kind {
     FileHeader,
     BatchHeader,
@@ -16,7 +16,7 @@ pub enum Kind {
 }
 
 // A record's kind, or that its kind or its segment is none of these.
-#[derive(Drop)]
+#[derive(Clone, Copy)]
 pub enum KindFound {
     Known(Kind),
     UnknownKind,

@@ -9,7 +9,7 @@ use crate::file_header::FileHeader;
 use crate::file_trailer::FileTrailer;
 use crate::kind::{Kind, KindFound};
 
-#[derive(Drop)]
+#[derive(Clone, Copy)]
 pub enum Reading {
     WrongWidth,
     UnknownKind,

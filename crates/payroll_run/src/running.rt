@@ -6,7 +6,7 @@ use crate::stage::Stage;
 use refusal::{Cause, Refusal};
 
 // Of the open batch: its records, its details and the sum of its payments.
-#[derive(Drop)]
+#[derive(Clone, Copy)]
 pub struct Batch {
     pub records: u64,
     pub details: u64,
@@ -14,7 +14,7 @@ pub struct Batch {
 }
 
 // `batches` counts the open one too; `payments` and `amount` are of the whole file.
-#[derive(Drop)]
+#[derive(Clone, Copy)]
 pub struct Running {
     pub stage: Stage,
     pub is_return: bool,

@@ -5,7 +5,7 @@ ghost use Rattle.payroll_run.specs.Stage.{first, between_batches, in_batch, plac
 use payroll_record::kind::Kind;
 use refusal::Refusal;
 
-#[derive(Drop)]
+#[derive(Clone, Copy)]
 pub enum Stage {
     // Nothing has come.
     Start,

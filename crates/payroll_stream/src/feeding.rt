@@ -5,7 +5,7 @@ ghost use Rattle.payroll_stream.specs.Feeding.{open_feeding, fed_of, closed_with
 use crate::{Progress, behind_end, so_far};
 use payroll_run::running::Running;
 
-#[derive(Drop)]
+#[derive(Clone, Copy)]
 pub struct Feeding {
     pub state: Running,
     pub progress: Progress,

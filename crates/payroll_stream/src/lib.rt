@@ -1,4 +1,5 @@
 // A payroll file that comes in chunks of any size, or record by record: the running state by value, and one unfinished record.
+#![tactic(auto)]
 ghost use Rattle.std.specs.Prelude.{◌≡◌, drop};
 ghost use Rattle.payroll_stream.specs.Stream.{
   open_of,
@@ -21,14 +22,14 @@ use refusal::Cause;
 
 pub mod feeding;
 
-#[derive(Drop)]
+#[derive(Clone, Copy)]
 pub enum Progress {
     // Nothing is refused so far, and the end has not come.
     GoingOn,
     Answered(PayrollAnswer),
 }
 
-#[derive(Drop)]
+#[derive(Clone, Copy)]
 pub struct Stream {
     pub state: Running,
     pub held: Unfinished,

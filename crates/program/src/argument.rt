@@ -5,7 +5,7 @@ ghost use Rattle.program.specs.Argument.{argument_of, GivenIn, ThreeIn};
 use files::error;
 
 // What reading an argument answers.
-#[derive(Drop)]
+#[derive(Clone, Copy)]
 pub enum Argument {
     // So many bytes, at the start of the room.
     Bytes(usize),
@@ -14,7 +14,7 @@ pub enum Argument {
 }
 
 // The same of three arguments.
-#[derive(Drop)]
+#[derive(Clone, Copy)]
 pub enum Three {
     Bytes(usize, usize, usize),
     TooLong,

@@ -8,7 +8,7 @@ use libc::STDERR_FILENO;
 use wording::put::text;
 
 // A program that can be called wrongly: `payroll` takes any names.
-#[derive(Drop)]
+#[derive(Clone, Copy)]
 pub enum Program {
     Card,
     Mask,
@@ -17,7 +17,7 @@ pub enum Program {
 }
 
 // What the system did not do.
-#[derive(Drop)]
+#[derive(Clone, Copy)]
 pub enum Failed {
     Open,
     Read,
@@ -28,7 +28,7 @@ pub enum Failed {
 }
 
 // Nothing of the file's content.
-#[derive(Drop)]
+#[derive(Clone, Copy)]
 pub enum Mistake {
     // The program is called with another number of arguments.
     Usage(Program),

@@ -1,11 +1,13 @@
 // Document 01's refusal list, a refusal, and the first of two faults.
+#![tactic(auto)]
+
 ghost use Rattle.std.specs.Prelude.{◌≡◌};
 ghost use Rattle.refusal.specs.RefusalList.{number_of, cause_numbered};
 ghost use Rattle.refusal.specs.Fault.{earlier_of, rule_of};
 ghost use Rattle.refusal.specs.Nowhere.{nowhere};
 
 // Why something is refused: a variant for each row of the refusal list, in its order.
-#[derive(Drop)]
+#[derive(Clone, Copy)]
 pub enum Cause {
     EditionUnknown,
     OutputTooShort,
@@ -28,7 +30,7 @@ pub enum Cause {
 }
 
 // A refusal: its cause, the record's number from 1, and the column; 0 where the list gives none.
-#[derive(Drop)]
+#[derive(Clone, Copy)]
 pub struct Refusal {
     pub cause: Cause,
     pub record: u64,
@@ -49,7 +51,7 @@ impl Refusal {
 }
 
 // What judging one record finds: no fault, or a cause and its column.
-#[derive(Drop)]
+#[derive(Clone, Copy)]
 pub enum Fault {
     Nothing,
     At(Cause, u64),

@@ -1,4 +1,5 @@
 // One field of a lone CV record, handed back as a part of it; never the card.
+#![tactic(auto)]
 ghost use Rattle.std.specs.Prelude.{◌≡◌, ◌≤◌};
 ghost use Rattle.text.specs.Part.{PartOf, AtPositions};
 ghost use Rattle.sale_field.specs.Field.{numbered, offered, field_of, place_of_field, refusal_of};
@@ -7,7 +8,7 @@ use card_sale::cv::Cv;
 use refusal::{Cause, Refusal};
 
 // Whether a field is handed back, or why not.
-#[derive(Drop)]
+#[derive(Clone, Copy)]
 pub enum FieldAnswer {
     Offered,
     Refused(Refusal),

@@ -1,6 +1,7 @@
 // sheet EDITION FILE OUT: writes the day sheet of an accepted card file to OUT, and prints the file's verdict.
 // sheet --convert FILE OUT: writes a day sheet to OUT in the other version, and prints the numbers of that one.
 // sheet FILE: prints the numbers of a day sheet.
+#![tactic(auto)]
 use card_program::verdict::Lines;
 use program::argument::{Argument, Three};
 use program::mistake::{Mistake, Program};

@@ -1,5 +1,6 @@
 // Day sheets: prints the answer of each case, a line each, below the name of the file that the cases stand in: sheets to read, to write and to convert, and
 // the sheets of card files, first the outside cases and then our own. Our own tell the whole output in hex, the outside ones its hash.
+#![tactic(auto)]
 ghost use Rattle.std.specs.Prelude.{◌+◌, ◌≤◌, min, length};
 
 use cases::cursor::EDITION_BYTES;
@@ -14,7 +15,7 @@ mod reading;
 mod writing;
 
 // What the cases of a file ask for.
-#[derive(Drop)]
+#[derive(Clone, Copy)]
 enum Question {
     Read,
     Write(Version),

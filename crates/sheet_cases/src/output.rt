@@ -4,7 +4,7 @@ use cases::{hash, print};
 // How many bytes the longest output of a case has.
 pub const ROOM: usize = 128;
 
-#[derive(Drop)]
+#[derive(Clone, Copy)]
 pub enum Told {
     // By its hash, as the outside cases do.
     ByHash,

@@ -10,7 +10,7 @@ use day_sheet::layout::Version;
 use day_sheet::writer::SheetWritten;
 
 // What a case wants in its output.
-#[derive(Drop)]
+#[derive(Clone, Copy)]
 pub enum Wanted {
     // The sheet of some numbers.
     Sheet(Version),

@@ -7,7 +7,7 @@ use totals::amounts::Totals;
 use totals::two_sets::TwoSets;
 
 // What both versions begin with. The date is the number AAAAMMDD.
-#[derive(Drop)]
+#[derive(Clone, Copy)]
 pub struct Heading {
     pub edition: u64,
     pub date: u64,
@@ -15,7 +15,7 @@ pub struct Heading {
     pub batches: u64,
 }
 
-#[derive(Drop)]
+#[derive(Clone, Copy)]
 pub enum Sheet {
     // The totals of all sales.
     Version1 {

@@ -6,7 +6,7 @@ use files::reading::Loaded;
 use files::{error, reading};
 use program::mistake::{Failed, Mistake};
 
-#[derive(Drop)]
+#[derive(Clone, Copy)]
 pub(crate) enum Content {
     // So many bytes, at the start of the room: all of it, if the file goes on.
     Bytes(usize),

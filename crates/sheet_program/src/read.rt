@@ -7,7 +7,7 @@ use day_sheet::reader;
 use day_sheet::reader::SheetRead;
 use program::mistake::Mistake;
 
-#[derive(Drop)]
+#[derive(Clone, Copy)]
 pub enum SheetOutcome {
     Read(SheetRead),
     Mistake(Mistake),

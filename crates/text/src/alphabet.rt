@@ -3,7 +3,7 @@ ghost use Rattle.std.specs.Prelude.{◌≡◌, drop};
 ghost use Rattle.text.specs.Alphabet.{within, card_text, allowed, first_stray, holds_only};
 
 // The kinds of part, by the bytes that they may hold.
-#[derive(Drop)]
+#[derive(Clone, Copy)]
 pub enum Alphabet {
     // N of a card file, dates, times, amounts: 0 to 9.
     Digits,
@@ -16,7 +16,7 @@ pub enum Alphabet {
 }
 
 // The first place of a part that holds a byte it may not hold.
-#[derive(Drop)]
+#[derive(Clone, Copy)]
 pub enum Stray {
     At(usize),
     Nowhere,

@@ -7,7 +7,7 @@ ghost use Rattle.text.specs.Weighed.{value_if_digits};
 use crate::alphabet::Alphabet;
 
 // What a part says when it is read as a number.
-#[derive(Drop)]
+#[derive(Clone, Copy)]
 pub enum Number {
     Of(u64),
     NotDigits,

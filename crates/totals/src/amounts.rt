@@ -2,14 +2,14 @@
 ghost use Rattle.std.specs.Prelude.{◌≡◌};
 ghost use Rattle.totals.specs.Amounts.{agreeing, added_amounts, no_totals, one_sale, added_totals};
 
-#[derive(Drop)]
+#[derive(Clone, Copy)]
 pub struct Amounts {
     pub gross: u64,
     pub discount: u64,
     pub net: u64,
 }
 
-#[derive(Drop)]
+#[derive(Clone, Copy)]
 pub struct Totals {
     pub sales: u64,
     pub amounts: Amounts,

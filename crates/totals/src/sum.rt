@@ -3,7 +3,7 @@ ghost use Rattle.std.specs.Prelude.{◌≡◌};
 ghost use Rattle.totals.specs.Sum.{sum_of, capped};
 
 // A sum, or that it leaves 64 bits.
-#[derive(Drop)]
+#[derive(Clone, Copy)]
 pub enum Sum {
     Of(u64),
     Over,

@@ -4,7 +4,7 @@ ghost use Rattle.totals.specs.TwoSets.{no_sets, one_sale_more, both_sets};
 
 use crate::amounts::Totals;
 
-#[derive(Drop)]
+#[derive(Clone, Copy)]
 pub struct TwoSets {
     pub forecast: Totals,
     pub settled: Totals,
