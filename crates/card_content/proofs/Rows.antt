@@ -34,7 +34,7 @@ fields_from : (e : ℕ) (r : List ℕ) (a : Fault) (fs : List Field) → joined 
 unfolding first_broken table_rules
 fields_from e r a [] = sym (nothing_second a)
 fields_from e r a (f ∷ fs) =
-    fields_from e r _ fs ∙
+    fields_from e r (earlier_of a (first_broken (field_rules e r f))) fs ∙
     associative a _ (first_broken (table_rules e r fs)) ∙
     ap (earlier_of a) (sym (in_a_row (field_rules e r f) (table_rules e r fs)))
 

@@ -1,5 +1,6 @@
 // What is held of a piece whose LF has not come, while a file comes in chunks of any size.
 #![tactic(auto)]
+
 ghost use Rattle.std.specs.Prelude.{◌≡◌, [], ◌++◌, min, length};
 ghost use Rattle.chunks.specs.Unfinished.{held_by, holding, clipped, clipped_with};
 

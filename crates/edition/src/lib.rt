@@ -1,5 +1,6 @@
 // The edition: which are known, and what a word states, any number of decimal digits.
 #![tactic(auto)]
+
 ghost use Rattle.std.specs.Prelude.{◌≡◌, true, min};
 ghost use Rattle.text.specs.Alphabet.{holds_only};
 ghost use Rattle.text.specs.Number.{value_of};

@@ -1,5 +1,6 @@
 // The cut of a file's bytes into pieces at each LF.
 #![tactic(auto)]
+
 ghost use Rattle.std.specs.Prelude.{◌≡◌};
 ghost use Rattle.text.specs.Part.{PartOf};
 ghost use Rattle.lines.specs.Lines.{no_lf, next_lf, ends_in_cr, without_last};

@@ -1,5 +1,6 @@
 // One card field: whether it is well formed, its valid characters, its hidden places, and the field masked in place.
 #![tactic(auto)]
+
 ghost use Rattle.std.specs.Prelude.{◌≡◌};
 ghost use Rattle.text.specs.Part.{PartOf};
 ghost use Rattle.pan.specs.CardField.{well_formed, leading_zeros, valid_characters};

@@ -3,4 +3,4 @@ use borrow.Author.Rules.{rules}
 use Rattle.refusal.proofs.Fault.earlier.Goals as goal
 
 pub returns-in-At : goal.returns-in-At
-returns-in-At c = rw c.self-1.given.1
+returns-in-At c = rw c.in-At.is

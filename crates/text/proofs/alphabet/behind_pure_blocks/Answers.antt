@@ -13,8 +13,9 @@ pub returns-then-not-holds_only : goal.returns-then-not-holds_only
 returns-then-not-holds_only c = c.loop-i.invariant
 
 pub loop-i-preserved : goal.loop-i-preserved
-loop-i-preserved c = let l = c.loop-i in
-    let pure = sym c.holds_only.ensures ∙ not-false _ c.if-not-holds_only.false in
+loop-i-preserved c =
+    let l = c.loop-i in
+    let pure = sym c.holds_only.ensures ∙ c.if-not-holds_only.false in
     sym (block_passed _ _ l.i 16 (omega arith) pure) ∙ l.invariant
 
 pub returns : goal.returns

@@ -12,13 +12,16 @@ pub loop-i-init : goal.loop-i-init
 loop-i-init c = c.behind_pure_blocks-i.ensures
 
 pub returns-then-not-allows : goal.returns-then-not-allows
-returns-then-not-allows c = let l = c.loop-i in
-    sym (found _ _ _ c.loop-i-test.true (sym c.allows.ensures ∙ not-true _ c.if-not-allows.true)) ∙ l.invariant
+returns-then-not-allows c =
+    let l = c.loop-i in
+    sym (found _ _ _ c.loop-i-test.true (sym c.allows.ensures ∙ c.if-not-allows.true)) ∙ l.invariant
 
 pub loop-i-preserved : goal.loop-i-preserved
-loop-i-preserved c = let l = c.loop-i in
-    sym (passed _ _ _ c.loop-i-test.true (sym c.allows.ensures ∙ not-false _ c.if-not-allows.false)) ∙ l.invariant
+loop-i-preserved c =
+    let l = c.loop-i in
+    sym (passed _ _ _ c.loop-i-test.true (sym c.allows.ensures ∙ c.if-not-allows.false)) ∙ l.invariant
 
 pub returns : goal.returns
-returns c = let l = c.loop-i in
+returns c =
+    let l = c.loop-i in
     sym (ended _ _ l.i c.loop-i-test.false) ∙ l.invariant

@@ -8,7 +8,7 @@ use Rattle.totals.proofs.sum.added.Goals as goal
 pub returns-in-Of : goal.returns-in-Of
 returns-in-Of c =
     let x = c.args in
-    let s = is_sum x.a x.b _ (sym c.checked.ensures ∙ c.n-1.given.1) in
+    let s = is_sum x.a x.b _ (sym c.checked.ensures ∙ c.in-Of.is) in
     omega arith
 
 pub returns-in-Over : goal.returns-in-Over

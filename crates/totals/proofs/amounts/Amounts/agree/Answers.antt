@@ -12,7 +12,7 @@ use Rattle.totals.proofs.amounts.Amounts.agree.Goals as goal
 pub returns-in-Of : goal.returns-in-Of
 returns-in-Of c =
     let x = c.args.self in
-    let s = is_sum x.discount x.net _ (sym c.checked.ensures ∙ c.n-1.given.1) in
+    let s = is_sum x.discount x.net _ (sym c.checked.ensures ∙ c.in-Of.is) in
     ap (eqb x.gross) (sym s.1)
 
 pub returns-in-Over : goal.returns-in-Over
