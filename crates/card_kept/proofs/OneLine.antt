@@ -38,7 +38,7 @@ module _ (e : ℕ) where
   batches_clear : (n : ℕ) (bs : List Batch) → BatchesKept e n bs → all_no_lf (batches_records bs) ≡ true
   unfolding all_no_lf BatchesKept batches_records
   batches_clear n [] k = refl
-  batches_clear n (b ∷ bs) (k, ks) = row_clear (batch_records b) (batches_records bs) (batch_clear n b k) (batches_clear _ bs ks)
+  batches_clear n (b ∷ bs) (k, ks) = row_clear (batch_records b) (batches_records bs) (batch_clear n b k) (batches_clear (n + length (batch_records b)) bs ks)
 
   file_clear : (f : File) → FileKept e f → all_no_lf (records_of f) ≡ true
   unfolding all_no_lf

@@ -70,7 +70,7 @@ module _ (e : ℕ) (P : List Transaction → Type 0) (none : P []) (one : (n : �
   unfolding BatchesKept batches_transactions
   of_batches n [] k = none
   of_batches n (b ∷ bs) (k, ks) =
-      row b.transactions (batches_transactions bs) (of_transactions (suc n) b.transactions k.transactions) (of_batches _ bs ks)
+      row b.transactions (batches_transactions bs) (of_transactions (suc n) b.transactions k.transactions) (of_batches (n + length (batch_records b)) bs ks)
 
 -- what is added and taken of two rows
 pub added_row : (ts us : List Transaction) → added (ts ++ us) ≡ added ts + added us

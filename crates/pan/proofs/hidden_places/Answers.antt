@@ -38,7 +38,9 @@ overflow_sub-zeros c =
     omega (arith, counted _ _ w c.valid_characters-valid.ensures.holds)
 
 pub overflow_add-from : goal.overflow_add-from
-overflow_add-from c = omega (arith, overflow_sub-zeros c, c.shown_in_front.ensures, shown (length c.valid_characters-valid.result.now))
+overflow_add-from c =
+    let w = sym c.well_formed-2.ensures ∙ c.if-not-well_formed.false in
+    omega (arith, counted _ _ w c.valid_characters-valid.ensures.holds, c.shown_in_front.ensures, shown (length c.valid_characters-valid.result.now))
 
 pub overflow_sub-to : goal.overflow_sub-to
 overflow_sub-to c = omega (arith, c.shown_at_end-to.ensures, shown (length c.valid_characters-valid.result.now))

@@ -22,5 +22,5 @@ returns c =
       begins = omega (arith, c.leading_zeros-zeros.ensures);
     }
 
--- DROPPED part-result-start (slice-bounds-result-start):
--- omega (arith, slice_bounds-result-count c)
+pub slice_bounds-result-start : goal.slice_bounds-result-start
+slice_bounds-result-start c = omega (arith, c.leading_zeros-zeros.ensures, within c.args.field.now)
