@@ -1,5 +1,6 @@
 -- The records of a file that keeps the rules hold no LF, so the file is cut into them.
-use Prim.Native.Nat.{ℕ, suc}
+use Prim.Native.Nat.{ℕ, suc, ◌+◌}
+use lib.ListN.{length}
 use mathlib.Core.Path.{◌≡◌, refl}
 use mathlib.Core.List.{List, [], ◌∷◌, map}
 use mathlib.Core.Bool.{true}

@@ -12,6 +12,7 @@ use Rattle.card_kept.specs.Adjustment.{adjustment_net}
 use Rattle.card_kept.specs.Sale.{payable_gross}
 use Rattle.card_kept.specs.Numbers.{plain_adjusted}
 use Rattle.card_kept.specs.Kept.{
+  batch_records,
   Transaction,
   bytes_of,
   Batch,
