@@ -1,5 +1,5 @@
 -- `files::reading::read_some` meets its contract: what an answer means lies within the room, which the read left as long as it was.
-use Rattle.std.proofs.Common.{◌≡◌, length, rules}
+use Rattle.std.proofs.Common.{rules}
 use Rattle.files.proofs.Meanings.{meant_within}
 use Rattle.files.proofs.reading.read_some.Goals as goal
 
