@@ -11,3 +11,11 @@ pub fn number(error: &io::Error) -> u64 {
     }
     number as u64
 }
+
+// The same of what a call came to.
+pub fn numbered(went: io::Result<()>) -> Result<(), u64> {
+    match went {
+        Ok(()) => Ok(()),
+        Err(error) => Err(number(&error)),
+    }
+}
