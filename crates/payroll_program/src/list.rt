@@ -52,7 +52,12 @@ fn put_words(outcome: PayrollOutcome, out: &mut [u8], at: usize) -> usize
 }
 
 // Writes a file's line, and no other text. Nothing else here writes.
-fn write_line(rt: &HostRuntime, outcome: PayrollOutcome, name: &[u8], line: &[u8]) -> Result<(), u64>
+fn write_line(
+    rt: &HostRuntime,
+    outcome: PayrollOutcome,
+    name: &[u8],
+    line: &[u8],
+) -> Result<(), u64>
     requires { line.now ≡ file_line (words_of outcome) name.now }
 {
     writing::write_to(rt, STDOUT, line)
