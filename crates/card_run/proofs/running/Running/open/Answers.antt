@@ -1,5 +1,4 @@
 -- `card_run::running::Running::open` meets its contract: each part is the promised one.
-
 use Rattle.card_run.proofs.running.Running.open.Goals as goal
 
 pub returns : goal.returns
