@@ -1,24 +1,14 @@
 -- `card_file::check` meets its contract. The invariant: the state, run over the bytes from `at` on, gives the answer of the whole file.
 -- The measure is what is left of the length.
-use Prim.Native.Nat.{◌≤◌, ◌<◌}
-use Prim.Native.Nat.{ℕ}
-use mathlib.Core.List.{List}
-use mathlib.Core.Path.{◌≡◌, sym, ◌∙◌, ap}
+use mathlib.Core.Path.{sym, ◌∙◌, ap}
 use native.Mathlib.Omega.{arith}
 use borrow.Author.Rules.{rules}
-use lib.ListN.{length}
-use Rattle.lines.specs.declared.Found.{Found}
-use Rattle.lines.specs.declared.Found.TheVariants.{At}
-use Rattle.lines.specs.Lines.{cut, next_lf}
+use Rattle.lines.specs.Lines.{cut}
 use Rattle.lines.proofs.Cuts.{at_inside}
 use Rattle.card_run.specs.Answer.{answer_of}
 use Rattle.card_file.specs.CardFile.{ran_of}
 use Rattle.card_file.proofs.Steps.{line_taken, bytes_left, nothing_left}
 use Rattle.card_file.proofs.check.Goals as goal
-
--- an LF that the search found stands between the place and the end
-inside : (file : List ℕ) (at end : ℕ) {found : Found} → found ≡ next_lf at file → found ≡ At end → (at ≤ end) × (end < length file)
-inside file at end searched is = at_inside _ _ _ (sym searched ∙ is)
 
 pub loop-at-init : goal.loop-at-init
 loop-at-init c = (search rules, ap (λ st. answer_of (ran_of st (cut c.args.file.now))) c.open-state.ensures)
@@ -31,26 +21,27 @@ returns-in_default c =
     ap answer_of (c.no_line_end.ensures ∙ bytes_left l.state l.at _ c.loop-at-test.true nowhere) ∙
     l.invariant.1
 
+-- the LF that was found stands between the place and the end
 pub slice_bounds-take_line-start : goal.slice_bounds-take_line-start
-slice_bounds-take_line-start c = (inside _ _ _ c.next_lf.ensures c.in-At.is).0
+slice_bounds-take_line-start c = (at_inside _ _ _ (sym c.next_lf.ensures ∙ c.in-At.is)).0
 
 pub slice_bounds-take_line-end : goal.slice_bounds-take_line-end
-slice_bounds-take_line-end c = omega (arith, (inside _ _ _ c.next_lf.ensures c.in-At.is).1)
+slice_bounds-take_line-end c = omega (arith, at_inside _ _ _ (sym c.next_lf.ensures ∙ c.in-At.is))
 
 pub slice_bounds-take_line-count : goal.slice_bounds-take_line-count
-slice_bounds-take_line-count c = (inside _ _ _ c.next_lf.ensures c.in-At.is).0
+slice_bounds-take_line-count c = (at_inside _ _ _ (sym c.next_lf.ensures ∙ c.in-At.is)).0
 
 pub overflow_add-at : goal.overflow_add-at
-overflow_add-at c = omega (arith, (inside _ _ _ c.next_lf.ensures c.in-At.is).1)
+overflow_add-at c = omega (arith, at_inside _ _ _ (sym c.next_lf.ensures ∙ c.in-At.is))
 
 pub loop-at-smaller : goal.loop-at-smaller
-loop-at-smaller c = omega (arith, inside _ _ _ c.next_lf.ensures c.in-At.is)
+loop-at-smaller c = omega (arith, at_inside _ _ _ (sym c.next_lf.ensures ∙ c.in-At.is))
 
 pub loop-at-preserved : goal.loop-at-preserved
 loop-at-preserved c =
     let l = c.loop-at in
     let found = sym c.next_lf.ensures ∙ c.in-At.is in (
-      omega (arith, (inside _ _ _ c.next_lf.ensures c.in-At.is).1),
+      omega (arith, at_inside _ _ _ (sym c.next_lf.ensures ∙ c.in-At.is)),
       ap answer_of (line_taken l.state l.at _ _ found c.take_line-state.ensures) ∙ l.invariant.1,
     )
 
