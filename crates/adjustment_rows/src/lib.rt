@@ -1,5 +1,6 @@
 // The adjustments of a card file as CSV: a header line, and a row for each record of kind AJ.
 #![tactic(auto)]
+
 mod amount;
 mod quoting;
 pub mod row;

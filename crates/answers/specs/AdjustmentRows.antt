@@ -2,22 +2,22 @@
 use Rattle.std.specs.Prelude.{ℕ, List, ◌++◌}
 use Prim.Native.String.{String}
 use base.Fml.{Lft}
-use Rattle.std.specs.Borrow.{Bor}
+use Rattle.std.specs.Borrow.{Bor, MutBor}
 use Rattle.text.specs.Literal.{ascii}
 use Rattle.adjustment_rows.specs.declared.rows.Rows.{Rows}
 use Rattle.adjustment_rows.proofs.row.put_header.Reads as PutHeader
 use Rattle.adjustment_rows.proofs.rows.put_rows.Reads as PutRows
-use Rattle.answers.specs.Held.{OneOutcome, Outcome, TellsOutcome, lent, one, two}
+use Rattle.answers.specs.Held.{OneOutcome, Outcome, TellsOutcome, lent, lent_mut, one, two}
 use Rattle.answers.specs.Samples.{at, sale, credit, debit, room}
 use Rattle.answers.specs.Texts.{shown}
 
 -- bytes of which the first line is record 3, and an output of 104 bytes
-abbrev asked : List ℕ → ℕ × (Bor (List ℕ) × (Bor (List ℕ) × Unit {0}))
-asked bytes = (3, (lent bytes, (lent (room 104), tt)))
+abbrev asked : List ℕ → ℕ × (Bor (List ℕ) × (MutBor (List ℕ) × Unit {0}))
+asked bytes = (3, (lent bytes, (lent_mut (room 104), tt)))
 
 -- what is answered, and what then stands in the output
-abbrev left : List ℕ → ℕ → ℕ → String → Outcome Rows (ℕ × (Bor (List ℕ) × (Bor (List ℕ) × Unit {0})))
-left bytes lines size text = record { answer = record { lines = lines; size = size }; exit = (3, (lent bytes, (lent (shown 104 text), tt))) }
+abbrev left : List ℕ → ℕ → ℕ → String → Outcome Rows (ℕ × (Bor (List ℕ) × (MutBor (List ℕ) × Unit {0})))
+left bytes lines size text = record { answer = record { lines = lines; size = size }; exit = (3, (lent bytes, (lent_mut (shown 104 text), tt))) }
 
 -- a record as a line
 abbrev line : List ℕ → List ℕ
@@ -30,13 +30,13 @@ pub record AdjustmentRows (κ : Lft) : Type 0 where
   -- `put_header`: other separators; no line end
   pub header : OneOutcome (λ κs s. s.0.now) PutHeader.Post
   pub header_separators :
-      TellsOutcome (PutHeader.Post (one κ)) (lent (room 86), (0, tt))
-      (record { answer = 86; exit = (lent (ascii "record,store,original_date,adjustment_date,type,reason,description,gross,discount,net\n"), (0, tt)) })
-      (record { answer = 86; exit = (lent (ascii "record;store;original_date;adjustment_date;type;reason;description;gross;discount;net\n"), (0, tt)) })
+      TellsOutcome (PutHeader.Post (one κ)) (lent_mut (room 86), (0, tt))
+      (record { answer = 86; exit = (lent_mut (ascii "record,store,original_date,adjustment_date,type,reason,description,gross,discount,net\n"), (0, tt)) })
+      (record { answer = 86; exit = (lent_mut (ascii "record;store;original_date;adjustment_date;type;reason;description;gross;discount;net\n"), (0, tt)) })
   pub header_no_end :
-      TellsOutcome (PutHeader.Post (one κ)) (lent (room 86), (0, tt))
-      (record { answer = 86; exit = (lent (ascii "record,store,original_date,adjustment_date,type,reason,description,gross,discount,net\n"), (0, tt)) })
-      (record { answer = 85; exit = (lent (ascii "record,store,original_date,adjustment_date,type,reason,description,gross,discount,net."), (0, tt)) })
+      TellsOutcome (PutHeader.Post (one κ)) (lent_mut (room 86), (0, tt))
+      (record { answer = 86; exit = (lent_mut (ascii "record,store,original_date,adjustment_date,type,reason,description,gross,discount,net\n"), (0, tt)) })
+      (record { answer = 85; exit = (lent_mut (ascii "record,store,original_date,adjustment_date,type,reason,description,gross,discount,net."), (0, tt)) })
   -- `put_rows`: the unfinished record counted; a sale with a row; a line without CR with a row; a debit told as a credit; the record numbered as the first; one quote for a quote; a text
   -- that a spreadsheet computes; blanks left out; a day of zeros; centavos; counted past the end of the output
   pub rows : OneOutcome (λ κs s. s.1.1.0.now) PutRows.Post
@@ -72,6 +72,6 @@ pub record AdjustmentRows (κ : Lft) : Type 0 where
       TellsOutcome (PutRows.Post (two κ)) (asked (line credit)) (left (line credit) 195 98 credit_row)
       (left (line credit) 195 94 "3,\"STORE          \",20240229,20240301,CREDIT,001,\"REFUND                        \",1000,25,975\n")
   pub rows_past_the_end :
-      TellsOutcome (PutRows.Post (two κ)) (3, (lent (line credit), (lent (room 2), tt)))
-      (record { answer = record { lines = 195; size = 2 }; exit = (3, (lent (line credit), (lent (ascii "3,"), tt))) })
-      (record { answer = record { lines = 195; size = 98 }; exit = (3, (lent (line credit), (lent (ascii "3,"), tt))) })
+      TellsOutcome (PutRows.Post (two κ)) (3, (lent (line credit), (lent_mut (room 2), tt)))
+      (record { answer = record { lines = 195; size = 2 }; exit = (3, (lent (line credit), (lent_mut (ascii "3,"), tt))) })
+      (record { answer = record { lines = 195; size = 98 }; exit = (3, (lent (line credit), (lent_mut (ascii "3,"), tt))) })

@@ -1,7 +1,7 @@
 -- What the contracts of a file that C gives in chunks are held to. Behind a function's name: the wrong programs that are ruled out.
 use Rattle.std.specs.Prelude.{ℕ, ◌≡◌, List, [], ◌++◌, take, drop, replicate}
 use contract.Lifetimes.{Lfts}
-use Rattle.std.specs.Borrow.{Bor}
+use Rattle.std.specs.Borrow.{Bor, MutBor}
 use Rattle.text.specs.Literal.{ascii}
 use Rattle.refusal.specs.declared.Cause.TheVariants.{EditionRetired, NoLineEnd, WrongWidth, EndsTooEarly, BytesAfterTheEnd}
 use Rattle.card_run.specs.declared.stage.Stage.TheVariants.{Start, InBatch, Ended, Closed, Refused}
@@ -27,14 +27,14 @@ use Rattle.c_chunks.proofs.payroll.lossivurn_payroll_stream_open.Reads as Payrol
 use Rattle.c_chunks.proofs.payroll.lossivurn_payroll_stream_take.Reads as PayrollTake
 use Rattle.c_chunks.proofs.payroll.lossivurn_payroll_stream_end.Reads as PayrollEnd
 use Rattle.c_chunks.proofs.payroll.lossivurn_payroll_stream_answer.Reads as PayrollAnswer
-use Rattle.answers.specs.Held.{OneOutcome, TellsOutcome, lent, three}
+use Rattle.answers.specs.Held.{OneOutcome, TellsOutcome, lent, lent_mut, three}
 
 -- one outcome of all three that a call leaves with the caller
 abbrev OneKept : {L : Type 0} {A R S : L → Type 0} → ((κs : L) → S κs → Kept) → ((κs : L) → A κs → R κs → S κs → Type 0) → Type 0
 OneKept {L} {A} {R} {S} left meets =
     (κs : L) (a : A κs) (r r' : R κs) (s s' : S κs) → meets κs a r s → meets κs a r' s' → left κs s ≡ left κs s'
 
-abbrev left : Bor (List ℕ) → Bor ℕ → Bor (List ℕ) → Kept
+abbrev left : MutBor (List ℕ) → MutBor ℕ → MutBor (List ℕ) → Kept
 left numbers waiting bytes = record { numbers = numbers.now; waiting = waiting.now; bytes = bytes.now }
 
 -- the lifetimes of four that are lent
@@ -42,13 +42,13 @@ abbrev four : Lft → Lfts 4
 four κ = (κ, (κ, (κ, (κ, tt))))
 
 -- what is kept, lent, before other arguments
-abbrev all : {T : Type 0} → Kept → T → Bor (List ℕ) × (Bor ℕ × (Bor (List ℕ) × T))
-all k others = (lent k.numbers, (record { ref_ptr = (0, 0); now = k.waiting }, (lent k.bytes, others)))
+abbrev all : {T : Type 0} → Kept → T → MutBor (List ℕ) × (MutBor ℕ × (MutBor (List ℕ) × T))
+all k others = (lent_mut k.numbers, (record { ref_ptr = (0, 0); ghost_name = 0; now = k.waiting }, (lent_mut k.bytes, others)))
 
-abbrev card : {T : Type 0} → CardStream → T → Bor (List ℕ) × (Bor ℕ × (Bor (List ℕ) × T))
+abbrev card : {T : Type 0} → CardStream → T → MutBor (List ℕ) × (MutBor ℕ × (MutBor (List ℕ) × T))
 card s = all (card_kept s)
 
-abbrev payroll : {T : Type 0} → PayrollStream → T → Bor (List ℕ) × (Bor ℕ × (Bor (List ℕ) × T))
+abbrev payroll : {T : Type 0} → PayrollStream → T → MutBor (List ℕ) × (MutBor ℕ × (MutBor (List ℕ) × T))
 payroll s = all (payroll_kept s)
 
 -- the same as a question takes it, which changes none of it
@@ -97,13 +97,13 @@ pub record CChunks (κ : Lft) : Type 0 where
   -- `lossivurn_card_stream_answer`: accepted before the end; accepted though a byte came behind the end
   pub card_answer_lem : OneOutcome (λ κs s. s.1.1.1.0.now) CardAnswer.Post
   pub card_answer_early :
-      TellsOutcome (CardAnswer.Post (three κ)) (asked (card_kept (stream (state Ended 5 one_sale) [])) (lent (replicate 20 0), tt))
-      (record { answer = tt; exit = (asked (card_kept (stream (state Ended 5 one_sale) [])) (lent (card_numbers card_goes_on), tt)) })
-      (record { answer = tt; exit = (asked (card_kept (stream (state Ended 5 one_sale) [])) (lent (card_numbers (accepted 5 0 one_sale)), tt)) })
+      TellsOutcome (CardAnswer.Post (three κ)) (asked (card_kept (stream (state Ended 5 one_sale) [])) (lent_mut (replicate 20 0), tt))
+      (record { answer = tt; exit = (asked (card_kept (stream (state Ended 5 one_sale) [])) (lent_mut (card_numbers card_goes_on), tt)) })
+      (record { answer = tt; exit = (asked (card_kept (stream (state Ended 5 one_sale) [])) (lent_mut (card_numbers (accepted 5 0 one_sale)), tt)) })
   pub card_answer_behind :
-      TellsOutcome (CardAnswer.Post (three κ)) (asked (card_kept (stream (state Closed 5 one_sale) (ascii "x"))) (lent (replicate 20 0), tt))
-      (record { answer = tt; exit = (asked (card_kept (stream (state Closed 5 one_sale) (ascii "x"))) (lent (card_numbers (card_refused (refusal BytesAfterTheEnd 6 0))), tt)) })
-      (record { answer = tt; exit = (asked (card_kept (stream (state Closed 5 one_sale) (ascii "x"))) (lent (card_numbers (accepted 5 0 one_sale)), tt)) })
+      TellsOutcome (CardAnswer.Post (three κ)) (asked (card_kept (stream (state Closed 5 one_sale) (ascii "x"))) (lent_mut (replicate 20 0), tt))
+      (record { answer = tt; exit = (asked (card_kept (stream (state Closed 5 one_sale) (ascii "x"))) (lent_mut (card_numbers (card_refused (refusal BytesAfterTheEnd 6 0))), tt)) })
+      (record { answer = tt; exit = (asked (card_kept (stream (state Closed 5 one_sale) (ascii "x"))) (lent_mut (card_numbers (accepted 5 0 one_sale)), tt)) })
   -- `lossivurn_payroll_stream_open`: accepted before anything has come; bytes of the file before left waiting
   pub payroll_open : OneKept (λ κs s. left s.0 s.1.0 s.1.1.0) PayrollOpen.Post
   pub payroll_open_answered :
@@ -141,10 +141,10 @@ pub record CChunks (κ : Lft) : Type 0 where
   -- `lossivurn_payroll_stream_answer`: accepted before the end; a refusal that shows only at the end
   pub payroll_answer_lem : OneOutcome (λ κs s. s.1.1.1.0.now) PayrollAnswer.Post
   pub payroll_answer_early :
-      TellsOutcome (PayrollAnswer.Post (three κ)) (asked (payroll_kept (payroll_stream (payroll_state AtEnd 5 3 1 10000) [] GoingOn)) (lent (replicate 8 0), tt))
-      (record { answer = tt; exit = (asked (payroll_kept (payroll_stream (payroll_state AtEnd 5 3 1 10000) [] GoingOn)) (lent (progress_numbers GoingOn), tt)) })
-      (record { answer = tt; exit = (asked (payroll_kept (payroll_stream (payroll_state AtEnd 5 3 1 10000) [] GoingOn)) (lent (progress_numbers (Answered (paid 1 10000))), tt)) })
+      TellsOutcome (PayrollAnswer.Post (three κ)) (asked (payroll_kept (payroll_stream (payroll_state AtEnd 5 3 1 10000) [] GoingOn)) (lent_mut (replicate 8 0), tt))
+      (record { answer = tt; exit = (asked (payroll_kept (payroll_stream (payroll_state AtEnd 5 3 1 10000) [] GoingOn)) (lent_mut (progress_numbers GoingOn), tt)) })
+      (record { answer = tt; exit = (asked (payroll_kept (payroll_stream (payroll_state AtEnd 5 3 1 10000) [] GoingOn)) (lent_mut (progress_numbers (Answered (paid 1 10000))), tt)) })
   pub payroll_answer_late :
-      TellsOutcome (PayrollAnswer.Post (three κ)) (asked (payroll_kept (payroll_stream (payroll_state (Stopped (refusal WrongWidth 3 0)) 2 1 0 0) [] GoingOn)) (lent (replicate 8 0), tt))
-      (record { answer = tt; exit = (asked (payroll_kept (payroll_stream (payroll_state (Stopped (refusal WrongWidth 3 0)) 2 1 0 0) [] GoingOn)) (lent (progress_numbers (Answered (refused (refusal WrongWidth 3 0)))), tt)) })
-      (record { answer = tt; exit = (asked (payroll_kept (payroll_stream (payroll_state (Stopped (refusal WrongWidth 3 0)) 2 1 0 0) [] GoingOn)) (lent (progress_numbers GoingOn), tt)) })
+      TellsOutcome (PayrollAnswer.Post (three κ)) (asked (payroll_kept (payroll_stream (payroll_state (Stopped (refusal WrongWidth 3 0)) 2 1 0 0) [] GoingOn)) (lent_mut (replicate 8 0), tt))
+      (record { answer = tt; exit = (asked (payroll_kept (payroll_stream (payroll_state (Stopped (refusal WrongWidth 3 0)) 2 1 0 0) [] GoingOn)) (lent_mut (progress_numbers (Answered (refused (refusal WrongWidth 3 0)))), tt)) })
+      (record { answer = tt; exit = (asked (payroll_kept (payroll_stream (payroll_state (Stopped (refusal WrongWidth 3 0)) 2 1 0 0) [] GoingOn)) (lent_mut (progress_numbers GoingOn), tt)) })

@@ -1,6 +1,6 @@
 -- What the contracts of the questions that C asks of whole files, day sheets and sales are held to. Behind a function's name: the wrong programs that are ruled out.
 use Rattle.std.specs.Prelude.{ℕ, List, [], ◌∷◌, ◌++◌, length, take, drop, replicate}
-use Rattle.std.specs.Borrow.{Bor}
+use Rattle.std.specs.Borrow.{Bor, MutBor}
 use Rattle.totals.specs.Amounts.{no_totals}
 use Rattle.day_sheet.specs.Sheet.{bytes_of}
 use Rattle.answers.specs.CardMask.{masked_sale, day_sheet}
@@ -18,24 +18,24 @@ use Rattle.c_files.proofs.sheet.lossivurn_sheet_read.Reads as SheetRead
 use Rattle.c_files.proofs.sheet.lossivurn_sheet_write_1.Reads as SheetWrite1
 use Rattle.c_files.proofs.sheet.lossivurn_sheet_write_2.Reads as SheetWrite2
 use Rattle.c_files.proofs.sheet.lossivurn_sheet_convert.Reads as SheetConvert
-use Rattle.answers.specs.Held.{OneOutcome, OneRowAndOutput, Outcome, TellsOutcome, lent, two, three}
+use Rattle.answers.specs.Held.{OneOutcome, OneRowAndOutput, Outcome, TellsOutcome, lent, lent_mut, two, three}
 
 -- what is lent: bytes or numbers, and a row; under an edition; with an output; with both
-abbrev asked : List ℕ → List ℕ → Bor (List ℕ) × (Bor (List ℕ) × Unit {0})
-asked given row = (lent given, (lent row, tt))
+abbrev asked : List ℕ → List ℕ → Bor (List ℕ) × (MutBor (List ℕ) × Unit {0})
+asked given row = (lent given, (lent_mut row, tt))
 
-abbrev under : ℕ → List ℕ → List ℕ → ℕ × (Bor (List ℕ) × (Bor (List ℕ) × Unit {0}))
+abbrev under : ℕ → List ℕ → List ℕ → ℕ × (Bor (List ℕ) × (MutBor (List ℕ) × Unit {0}))
 under edition file row = (edition, asked file row)
 
-abbrev into : List ℕ → List ℕ → List ℕ → Bor (List ℕ) × (Bor (List ℕ) × (Bor (List ℕ) × Unit {0}))
-into given out row = (lent given, asked out row)
+abbrev into : List ℕ → List ℕ → List ℕ → Bor (List ℕ) × (MutBor (List ℕ) × (MutBor (List ℕ) × Unit {0}))
+into given out row = (lent given, (lent_mut out, (lent_mut row, tt)))
 
-abbrev into_under : ℕ → List ℕ → List ℕ → List ℕ → ℕ × (Bor (List ℕ) × (Bor (List ℕ) × (Bor (List ℕ) × Unit {0})))
+abbrev into_under : ℕ → List ℕ → List ℕ → List ℕ → ℕ × (Bor (List ℕ) × (MutBor (List ℕ) × (MutBor (List ℕ) × Unit {0})))
 into_under edition file out row = (edition, into file out row)
 
 -- a field's number between bytes and row
-abbrev numbered : ℕ → List ℕ → Bor (List ℕ) × (ℕ × (Bor (List ℕ) × Unit {0}))
-numbered number row = (lent sale, (number, (lent row, tt)))
+abbrev numbered : ℕ → List ℕ → Bor (List ℕ) × (ℕ × (MutBor (List ℕ) × Unit {0}))
+numbered number row = (lent sale, (number, (lent_mut row, tt)))
 
 -- the outcome of a question that answers by what it leaves in what is lent
 abbrev left : {S : Type 0} → S → Outcome (Unit {0}) S

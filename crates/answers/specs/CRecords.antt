@@ -1,6 +1,6 @@
 -- What the contracts of a file that C gives record by record are held to. Behind a function's name: the wrong programs that are ruled out.
 use Rattle.std.specs.Prelude.{ℕ, List, [], ◌∷◌, replicate}
-use Rattle.std.specs.Borrow.{Bor}
+use Rattle.std.specs.Borrow.{Bor, MutBor}
 use Rattle.text.specs.Literal.{ascii}
 use Rattle.refusal.specs.declared.Cause.TheVariants.{EditionUnknown, KindUnknown, WrongWidth, EndsTooEarly, BytesAfterTheEnd}
 use Rattle.card_run.specs.declared.stage.Stage.TheVariants.{Start, InBatch, Ended, Closed, Refused}
@@ -27,18 +27,25 @@ use Rattle.c_records.proofs.payroll.lossivurn_payroll_open.Reads as PayrollOpen
 use Rattle.c_records.proofs.payroll.lossivurn_payroll_feed.Reads as PayrollFeed
 use Rattle.c_records.proofs.payroll.lossivurn_payroll_close.Reads as PayrollClose
 use Rattle.c_records.proofs.payroll.lossivurn_payroll_answer.Reads as PayrollAnswer
-use Rattle.answers.specs.Held.{OneOutcome, TellsOutcome, lent, one, two}
+use Rattle.answers.specs.Held.{OneOutcome, TellsOutcome, lent, lent_mut, one, two}
 
--- a state as a caller keeps it
-abbrev card : Running → Bor (List ℕ)
-card st = lent (state_numbers st)
+-- a state as a caller keeps it, lent to be changed
+abbrev card : Running → MutBor (List ℕ)
+card st = lent_mut (state_numbers st)
 
-abbrev payroll : Feeding → Bor (List ℕ)
-payroll f = lent (feeding_numbers f)
+abbrev payroll : Feeding → MutBor (List ℕ)
+payroll f = lent_mut (feeding_numbers f)
+
+-- the same, lent to be asked
+abbrev card_asked : Running → Bor (List ℕ)
+card_asked st = lent (state_numbers st)
+
+abbrev payroll_asked : Feeding → Bor (List ℕ)
+payroll_asked f = lent (feeding_numbers f)
 
 -- so many numbers that no call has written
-abbrev unwritten : ℕ → Bor (List ℕ)
-unwritten size = lent (replicate size 0)
+abbrev unwritten : ℕ → MutBor (List ℕ)
+unwritten size = lent_mut (replicate size 0)
 
 -- a payroll file that has ended and is not closed
 abbrev ended : Feeding
@@ -82,13 +89,13 @@ pub record CRecords (κ : Lft) : Type 0 where
   -- `lossivurn_card_answer`: accepted before the close; zeros taken for a file that goes on
   pub card_answer_lem : OneOutcome (λ κs s. s.1.0.now) CardAnswer.Post
   pub card_answer_early :
-      TellsOutcome (CardAnswer.Post (two κ)) (card (state Ended 5 one_sale), (unwritten 20, tt))
-      (record { answer = tt; exit = (card (state Ended 5 one_sale), (lent (card_numbers card_goes_on), tt)) })
-      (record { answer = tt; exit = (card (state Ended 5 one_sale), (lent (card_numbers (accepted 5 0 one_sale)), tt)) })
+      TellsOutcome (CardAnswer.Post (two κ)) (card_asked (state Ended 5 one_sale), (unwritten 20, tt))
+      (record { answer = tt; exit = (card_asked (state Ended 5 one_sale), (lent_mut (card_numbers card_goes_on), tt)) })
+      (record { answer = tt; exit = (card_asked (state Ended 5 one_sale), (lent_mut (card_numbers (accepted 5 0 one_sale)), tt)) })
   pub card_answer_zeros :
-      TellsOutcome (CardAnswer.Post (two κ)) (unwritten 24, (unwritten 20, tt))
-      (record { answer = tt; exit = (unwritten 24, (lent (1 ∷ replicate 19 0), tt)) })
-      (record { answer = tt; exit = (unwritten 24, (unwritten 20, tt)) })
+      TellsOutcome (CardAnswer.Post (two κ)) (lent (replicate 24 0), (unwritten 20, tt))
+      (record { answer = tt; exit = (lent (replicate 24 0), (lent_mut (1 ∷ replicate 19 0), tt)) })
+      (record { answer = tt; exit = (lent (replicate 24 0), (unwritten 20, tt)) })
   -- `lossivurn_payroll_open`: a record that has not come; the state of the file before left in place
   pub payroll_open : OneOutcome (λ κs s. s.0.now) PayrollOpen.Post
   pub payroll_open_counted :
@@ -122,10 +129,10 @@ pub record CRecords (κ : Lft) : Type 0 where
   -- `lossivurn_payroll_answer`: accepted before the close; a refusal that shows only at the close
   pub payroll_answer_lem : OneOutcome (λ κs s. s.1.0.now) PayrollAnswer.Post
   pub payroll_answer_early :
-      TellsOutcome (PayrollAnswer.Post (two κ)) (payroll ended, (unwritten 8, tt))
-      (record { answer = tt; exit = (payroll ended, (lent (progress_numbers GoingOn), tt)) })
-      (record { answer = tt; exit = (payroll ended, (lent (progress_numbers (Answered (paid 1 10000))), tt)) })
+      TellsOutcome (PayrollAnswer.Post (two κ)) (payroll_asked ended, (unwritten 8, tt))
+      (record { answer = tt; exit = (payroll_asked ended, (lent_mut (progress_numbers GoingOn), tt)) })
+      (record { answer = tt; exit = (payroll_asked ended, (lent_mut (progress_numbers (Answered (paid 1 10000))), tt)) })
   pub payroll_answer_late :
-      TellsOutcome (PayrollAnswer.Post (two κ)) (payroll (feeding (payroll_state (Stopped (refusal WrongWidth 3 0)) 2 1 0 0) GoingOn), (unwritten 8, tt))
-      (record { answer = tt; exit = (payroll (feeding (payroll_state (Stopped (refusal WrongWidth 3 0)) 2 1 0 0) GoingOn), (lent (progress_numbers (Answered (refused (refusal WrongWidth 3 0)))), tt)) })
-      (record { answer = tt; exit = (payroll (feeding (payroll_state (Stopped (refusal WrongWidth 3 0)) 2 1 0 0) GoingOn), (lent (progress_numbers GoingOn), tt)) })
+      TellsOutcome (PayrollAnswer.Post (two κ)) (payroll_asked (feeding (payroll_state (Stopped (refusal WrongWidth 3 0)) 2 1 0 0) GoingOn), (unwritten 8, tt))
+      (record { answer = tt; exit = (payroll_asked (feeding (payroll_state (Stopped (refusal WrongWidth 3 0)) 2 1 0 0) GoingOn), (lent_mut (progress_numbers (Answered (refused (refusal WrongWidth 3 0)))), tt)) })
+      (record { answer = tt; exit = (payroll_asked (feeding (payroll_state (Stopped (refusal WrongWidth 3 0)) 2 1 0 0) GoingOn), (lent_mut (progress_numbers GoingOn), tt)) })

@@ -24,7 +24,7 @@ use Rattle.sale_field.proofs.field.Reads as Field
 use Rattle.sale_field.proofs.place.Reads as Place
 use Rattle.card_sheet.proofs.sheet_from.Reads as SheetFrom
 use Rattle.card_sheet.proofs.sheet_of.Reads as SheetOf
-use Rattle.answers.specs.Held.{OneAnswer, OnePart, OneOutcome, Tells, TellsOutcome, lent, part, one, two}
+use Rattle.answers.specs.Held.{OneAnswer, OnePart, OneOutcome, Tells, TellsOutcome, lent, lent_mut, part, one, two}
 
 -- document 01's example with its card masked
 abbrev pub masked_sale : List ℕ
@@ -52,52 +52,52 @@ pub record CardMask (κ : Lft) : Type 0 where
   -- `mask_lines`: the unfinished record counted; nothing masked
   pub mask_lines : OneOutcome (λ κs s. s.0.now) MaskLines.Post
   pub lines_unfinished :
-      TellsOutcome (MaskLines.Post (one κ)) (lent (sale ++ ascii "\r\nCV"), tt)
-      (record { answer = 201; exit = (lent (masked_sale ++ ascii "\r\nCV"), tt) })
-      (record { answer = 203; exit = (lent (masked_sale ++ ascii "\r\nCV"), tt) })
+      TellsOutcome (MaskLines.Post (one κ)) (lent_mut (sale ++ ascii "\r\nCV"), tt)
+      (record { answer = 201; exit = (lent_mut (masked_sale ++ ascii "\r\nCV"), tt) })
+      (record { answer = 203; exit = (lent_mut (masked_sale ++ ascii "\r\nCV"), tt) })
   pub lines_unmasked :
-      TellsOutcome (MaskLines.Post (one κ)) (lent (sale ++ ascii "\r\n"), tt)
-      (record { answer = 201; exit = (lent (masked_sale ++ ascii "\r\n"), tt) })
-      (record { answer = 201; exit = (lent (sale ++ ascii "\r\n"), tt) })
+      TellsOutcome (MaskLines.Post (one κ)) (lent_mut (sale ++ ascii "\r\n"), tt)
+      (record { answer = 201; exit = (lent_mut (masked_sale ++ ascii "\r\n"), tt) })
+      (record { answer = 201; exit = (lent_mut (sale ++ ascii "\r\n"), tt) })
   -- of an adjustment: its card unmasked; masked where a sale's card stands; a blank card masked
   pub lines_adjustment :
-      TellsOutcome (MaskLines.Post (one κ)) (lent (credit ++ ascii "\r\n"), tt)
-      (record { answer = 195; exit = (lent (at 163 "000123456******3456" credit ++ ascii "\r\n"), tt) })
-      (record { answer = 195; exit = (lent (credit ++ ascii "\r\n"), tt) })
+      TellsOutcome (MaskLines.Post (one κ)) (lent_mut (credit ++ ascii "\r\n"), tt)
+      (record { answer = 195; exit = (lent_mut (at 163 "000123456******3456" credit ++ ascii "\r\n"), tt) })
+      (record { answer = 195; exit = (lent_mut (credit ++ ascii "\r\n"), tt) })
   pub lines_as_sale :
-      TellsOutcome (MaskLines.Post (one κ)) (lent (at 88 "0001234567890123456" credit ++ ascii "\r\n"), tt)
-      (record { answer = 195; exit = (lent (at 163 "000123456******3456" (at 88 "0001234567890123456" credit) ++ ascii "\r\n"), tt) })
-      (record { answer = 195; exit = (lent (at 88 "000123456******3456" credit ++ ascii "\r\n"), tt) })
+      TellsOutcome (MaskLines.Post (one κ)) (lent_mut (at 88 "0001234567890123456" credit ++ ascii "\r\n"), tt)
+      (record { answer = 195; exit = (lent_mut (at 163 "000123456******3456" (at 88 "0001234567890123456" credit) ++ ascii "\r\n"), tt) })
+      (record { answer = 195; exit = (lent_mut (at 88 "000123456******3456" credit ++ ascii "\r\n"), tt) })
   pub lines_blank_card :
-      TellsOutcome (MaskLines.Post (one κ)) (lent (at 163 blank_card credit ++ ascii "\r\n"), tt)
-      (record { answer = 195; exit = (lent (at 163 blank_card credit ++ ascii "\r\n"), tt) })
-      (record { answer = 195; exit = (lent (at 163 "      *********    " credit ++ ascii "\r\n"), tt) })
+      TellsOutcome (MaskLines.Post (one κ)) (lent_mut (at 163 blank_card credit ++ ascii "\r\n"), tt)
+      (record { answer = 195; exit = (lent_mut (at 163 blank_card credit ++ ascii "\r\n"), tt) })
+      (record { answer = 195; exit = (lent_mut (at 163 "      *********    " credit ++ ascii "\r\n"), tt) })
   -- `mask`: no masking; a refused file's output written; a shorter output filled as far as it goes; 2 before 1, and before 22; a file under edition 1 masked
   pub mask : OneOutcome (λ κs s. s.1.1.0.now) Mask.Post
   pub mask_none :
-      TellsOutcome (Mask.Post (two κ)) (2, (lent card_file, (lent (room (length card_file)), tt)))
-      (record { answer = accepted 5 1 one_sale; exit = (2, (lent card_file, (lent (file_of masked_sale), tt))) })
-      (record { answer = accepted 5 1 one_sale; exit = (2, (lent card_file, (lent card_file, tt))) })
+      TellsOutcome (Mask.Post (two κ)) (2, (lent card_file, (lent_mut (room (length card_file)), tt)))
+      (record { answer = accepted 5 1 one_sale; exit = (2, (lent card_file, (lent_mut (file_of masked_sale), tt))) })
+      (record { answer = accepted 5 1 one_sale; exit = (2, (lent card_file, (lent_mut card_file, tt))) })
   pub mask_refused :
-      TellsOutcome (Mask.Post (two κ)) (2, (lent (file_of (at 194 "000004" sale)), (lent (room (length card_file)), tt)))
-      (record { answer = Refused (refusal SequenceWrong 3 194); exit = (2, (lent (file_of (at 194 "000004" sale)), (lent (room (length card_file)), tt))) })
-      (record { answer = Refused (refusal SequenceWrong 3 194); exit = (2, (lent (file_of (at 194 "000004" sale)), (lent (file_of masked_sale), tt))) })
+      TellsOutcome (Mask.Post (two κ)) (2, (lent (file_of (at 194 "000004" sale)), (lent_mut (room (length card_file)), tt)))
+      (record { answer = Refused (refusal SequenceWrong 3 194); exit = (2, (lent (file_of (at 194 "000004" sale)), (lent_mut (room (length card_file)), tt))) })
+      (record { answer = Refused (refusal SequenceWrong 3 194); exit = (2, (lent (file_of (at 194 "000004" sale)), (lent_mut (file_of masked_sale), tt))) })
   pub mask_short :
-      TellsOutcome (Mask.Post (two κ)) (2, (lent card_file, (lent (room 201), tt)))
-      (record { answer = Refused (refusal OutputTooShort 0 0); exit = (2, (lent card_file, (lent (room 201), tt))) })
-      (record { answer = Refused (refusal OutputTooShort 0 0); exit = (2, (lent card_file, (lent (take 201 card_file), tt))) })
+      TellsOutcome (Mask.Post (two κ)) (2, (lent card_file, (lent_mut (room 201), tt)))
+      (record { answer = Refused (refusal OutputTooShort 0 0); exit = (2, (lent card_file, (lent_mut (room 201), tt))) })
+      (record { answer = Refused (refusal OutputTooShort 0 0); exit = (2, (lent card_file, (lent_mut (take 201 card_file), tt))) })
   pub mask_order :
-      TellsOutcome (Mask.Post (two κ)) (3, (lent card_file, (lent (room 201), tt)))
-      (record { answer = Refused (refusal EditionUnknown 0 0); exit = (3, (lent card_file, (lent (room 201), tt))) })
-      (record { answer = Refused (refusal OutputTooShort 0 0); exit = (3, (lent card_file, (lent (room 201), tt))) })
+      TellsOutcome (Mask.Post (two κ)) (3, (lent card_file, (lent_mut (room 201), tt)))
+      (record { answer = Refused (refusal EditionUnknown 0 0); exit = (3, (lent card_file, (lent_mut (room 201), tt))) })
+      (record { answer = Refused (refusal OutputTooShort 0 0); exit = (3, (lent card_file, (lent_mut (room 201), tt))) })
   pub mask_order_retired :
-      TellsOutcome (Mask.Post (two κ)) (1, (lent card_file, (lent (room 201), tt)))
-      (record { answer = Refused (refusal EditionRetired 0 0); exit = (1, (lent card_file, (lent (room 201), tt))) })
-      (record { answer = Refused (refusal OutputTooShort 0 0); exit = (1, (lent card_file, (lent (room 201), tt))) })
+      TellsOutcome (Mask.Post (two κ)) (1, (lent card_file, (lent_mut (room 201), tt)))
+      (record { answer = Refused (refusal EditionRetired 0 0); exit = (1, (lent card_file, (lent_mut (room 201), tt))) })
+      (record { answer = Refused (refusal OutputTooShort 0 0); exit = (1, (lent card_file, (lent_mut (room 201), tt))) })
   pub mask_retired :
-      TellsOutcome (Mask.Post (two κ)) (1, (lent card_file, (lent (room (length card_file)), tt)))
-      (record { answer = Refused (refusal EditionRetired 0 0); exit = (1, (lent card_file, (lent (room (length card_file)), tt))) })
-      (record { answer = accepted 5 1 one_sale; exit = (1, (lent card_file, (lent (file_of masked_sale), tt))) })
+      TellsOutcome (Mask.Post (two κ)) (1, (lent card_file, (lent_mut (room (length card_file)), tt)))
+      (record { answer = Refused (refusal EditionRetired 0 0); exit = (1, (lent card_file, (lent_mut (room (length card_file)), tt))) })
+      (record { answer = accepted 5 1 one_sale; exit = (1, (lent card_file, (lent_mut (file_of masked_sale), tt))) })
   -- `field_answer`: the card offered; a longer record taken; an adjustment taken; 14 before 4
   pub field_answer : OneAnswer FieldAnswer.Post
   pub field_card : Tells (FieldAnswer.Post (one κ)) (lent sale, (13, tt)) (not_offered (refusal FieldNotOffered 0 0)) Offered
@@ -128,38 +128,38 @@ pub record CardMask (κ : Lft) : Type 0 where
   -- 0; a forecast in the settled places; version 1 written
   pub sheet_of_lem : OneOutcome (λ κs s. s.1.1.0.now) SheetOf.Post
   pub sheet_of_edition :
-      TellsOutcome (SheetOf.Post (two κ)) (2, (lent card_file, (lent (room 81), tt)))
-      (record { answer = accepted 5 1 one_sale; exit = (2, (lent card_file, (lent (bytes_of (day_sheet 2)), tt))) })
-      (record { answer = accepted 5 1 one_sale; exit = (2, (lent card_file, (lent (bytes_of (day_sheet 1)), tt))) })
+      TellsOutcome (SheetOf.Post (two κ)) (2, (lent card_file, (lent_mut (room 81), tt)))
+      (record { answer = accepted 5 1 one_sale; exit = (2, (lent card_file, (lent_mut (bytes_of (day_sheet 2)), tt))) })
+      (record { answer = accepted 5 1 one_sale; exit = (2, (lent card_file, (lent_mut (bytes_of (day_sheet 1)), tt))) })
   pub sheet_of_retired :
-      TellsOutcome (SheetOf.Post (two κ)) (1, (lent card_file, (lent (room 81), tt)))
-      (record { answer = Refused (refusal EditionRetired 0 0); exit = (1, (lent card_file, (lent (room 81), tt))) })
-      (record { answer = accepted 5 1 one_sale; exit = (1, (lent card_file, (lent (bytes_of (day_sheet 1)), tt))) })
+      TellsOutcome (SheetOf.Post (two κ)) (1, (lent card_file, (lent_mut (room 81), tt)))
+      (record { answer = Refused (refusal EditionRetired 0 0); exit = (1, (lent card_file, (lent_mut (room 81), tt))) })
+      (record { answer = accepted 5 1 one_sale; exit = (1, (lent card_file, (lent_mut (bytes_of (day_sheet 1)), tt))) })
   pub sheet_of_order :
-      TellsOutcome (SheetOf.Post (two κ)) (1, (lent card_file, (lent (room 80), tt)))
-      (record { answer = Refused (refusal EditionRetired 0 0); exit = (1, (lent card_file, (lent (room 80), tt))) })
-      (record { answer = Refused (refusal OutputTooShort 0 0); exit = (1, (lent card_file, (lent (room 80), tt))) })
+      TellsOutcome (SheetOf.Post (two κ)) (1, (lent card_file, (lent_mut (room 80), tt)))
+      (record { answer = Refused (refusal EditionRetired 0 0); exit = (1, (lent card_file, (lent_mut (room 80), tt))) })
+      (record { answer = Refused (refusal OutputTooShort 0 0); exit = (1, (lent card_file, (lent_mut (room 80), tt))) })
   pub sheet_of_past :
-      TellsOutcome (SheetOf.Post (two κ)) (2, (lent card_file, (lent (room 82), tt)))
-      (record { answer = accepted 5 1 one_sale; exit = (2, (lent card_file, (lent (bytes_of (day_sheet 2) ++ room 1), tt))) })
-      (record { answer = accepted 5 1 one_sale; exit = (2, (lent card_file, (lent (bytes_of (day_sheet 2) ++ ascii "\n"), tt))) })
+      TellsOutcome (SheetOf.Post (two κ)) (2, (lent card_file, (lent_mut (room 82), tt)))
+      (record { answer = accepted 5 1 one_sale; exit = (2, (lent card_file, (lent_mut (bytes_of (day_sheet 2) ++ room 1), tt))) })
+      (record { answer = accepted 5 1 one_sale; exit = (2, (lent card_file, (lent_mut (bytes_of (day_sheet 2) ++ ascii "\n"), tt))) })
   pub sheet_of_refused :
-      TellsOutcome (SheetOf.Post (two κ)) (2, (lent (file_of (at 194 "000004" sale)), (lent (room 81), tt)))
-      (record { answer = Refused (refusal SequenceWrong 3 194); exit = (2, (lent (file_of (at 194 "000004" sale)), (lent (room 81), tt))) })
-      (record { answer = Refused (refusal SequenceWrong 3 194); exit = (2, (lent (file_of (at 194 "000004" sale)), (lent (bytes_of (day_sheet 2)), tt))) })
+      TellsOutcome (SheetOf.Post (two κ)) (2, (lent (file_of (at 194 "000004" sale)), (lent_mut (room 81), tt)))
+      (record { answer = Refused (refusal SequenceWrong 3 194); exit = (2, (lent (file_of (at 194 "000004" sale)), (lent_mut (room 81), tt))) })
+      (record { answer = Refused (refusal SequenceWrong 3 194); exit = (2, (lent (file_of (at 194 "000004" sale)), (lent_mut (bytes_of (day_sheet 2)), tt))) })
   pub sheet_of_short :
-      TellsOutcome (SheetOf.Post (two κ)) (2, (lent card_file, (lent (room 80), tt)))
-      (record { answer = Refused (refusal OutputTooShort 0 0); exit = (2, (lent card_file, (lent (room 80), tt))) })
-      (record { answer = accepted 5 1 one_sale; exit = (2, (lent card_file, (lent (take 80 (bytes_of (day_sheet 2))), tt))) })
+      TellsOutcome (SheetOf.Post (two κ)) (2, (lent card_file, (lent_mut (room 80), tt)))
+      (record { answer = Refused (refusal OutputTooShort 0 0); exit = (2, (lent card_file, (lent_mut (room 80), tt))) })
+      (record { answer = accepted 5 1 one_sale; exit = (2, (lent card_file, (lent_mut (take 80 (bytes_of (day_sheet 2))), tt))) })
   pub sheet_of_short_one :
-      TellsOutcome (SheetOf.Post (two κ)) (2, (lent card_file, (lent (room 52), tt)))
-      (record { answer = Refused (refusal OutputTooShort 0 0); exit = (2, (lent card_file, (lent (room 52), tt))) })
-      (record { answer = accepted 5 1 one_sale; exit = (2, (lent card_file, (lent (bytes_of (converted (day_sheet 2))), tt))) })
+      TellsOutcome (SheetOf.Post (two κ)) (2, (lent card_file, (lent_mut (room 52), tt)))
+      (record { answer = Refused (refusal OutputTooShort 0 0); exit = (2, (lent card_file, (lent_mut (room 52), tt))) })
+      (record { answer = accepted 5 1 one_sale; exit = (2, (lent card_file, (lent_mut (bytes_of (converted (day_sheet 2))), tt))) })
   pub sheet_of_split :
-      TellsOutcome (SheetOf.Post (two κ)) (2, (lent card_file, (lent (room 81), tt)))
-      (record { answer = accepted 5 1 one_sale; exit = (2, (lent card_file, (lent (bytes_of (day_sheet 2)), tt))) })
-      (record { answer = accepted 5 1 one_sale; exit = (2, (lent card_file, (lent (bytes_of (sheet_with 2 0 one_sale)), tt))) })
+      TellsOutcome (SheetOf.Post (two κ)) (2, (lent card_file, (lent_mut (room 81), tt)))
+      (record { answer = accepted 5 1 one_sale; exit = (2, (lent card_file, (lent_mut (bytes_of (day_sheet 2)), tt))) })
+      (record { answer = accepted 5 1 one_sale; exit = (2, (lent card_file, (lent_mut (bytes_of (sheet_with 2 0 one_sale)), tt))) })
   pub sheet_of_forecast :
-      TellsOutcome (SheetOf.Post (two κ)) (2, (lent (file_of (at 44 "0" sale)), (lent (room 81), tt)))
-      (record { answer = accepted 5 1 one_forecast; exit = (2, (lent (file_of (at 44 "0" sale)), (lent (bytes_of (sheet_with 2 1 one_forecast)), tt))) })
-      (record { answer = accepted 5 1 one_forecast; exit = (2, (lent (file_of (at 44 "0" sale)), (lent (bytes_of (day_sheet 2)), tt))) })
+      TellsOutcome (SheetOf.Post (two κ)) (2, (lent (file_of (at 44 "0" sale)), (lent_mut (room 81), tt)))
+      (record { answer = accepted 5 1 one_forecast; exit = (2, (lent (file_of (at 44 "0" sale)), (lent_mut (bytes_of (sheet_with 2 1 one_forecast)), tt))) })
+      (record { answer = accepted 5 1 one_forecast; exit = (2, (lent (file_of (at 44 "0" sale)), (lent_mut (bytes_of (day_sheet 2)), tt))) })

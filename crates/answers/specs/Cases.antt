@@ -17,7 +17,7 @@ use Rattle.cases.proofs.hash.hash.Reads as Hash
 use Rattle.cases.proofs.output.fill.Reads as Fill
 use Rattle.cases.proofs.row.card_row.Reads as CardRow
 use Rattle.cases.proofs.row.same.Reads as Same
-use Rattle.answers.specs.Held.{OneAnswer, OnePart, OneOutcome, Tells, TellsOutcome, lent, part, one, two}
+use Rattle.answers.specs.Held.{OneAnswer, OnePart, OneOutcome, Tells, TellsOutcome, lent, lent_mut, part, one, two}
 
 abbrev pub number_with : ℕ → ℕ → Number
 number_with value behind = record { value = value; behind = behind }
@@ -57,13 +57,13 @@ pub record Cases (κ : Lft) : Type 0 where
   -- `fill`: a pattern from 0; another step
   pub fill : OneOutcome (λ κs s. s.0.now) Fill.Post
   pub fill_from_zero :
-      TellsOutcome (Fill.Post (one κ)) (lent (ascii "..."), tt)
-      (record { answer = tt; exit = (lent (3 ∷ 10 ∷ 17 ∷ []), tt) })
-      (record { answer = tt; exit = (lent (0 ∷ 7 ∷ 14 ∷ []), tt) })
+      TellsOutcome (Fill.Post (one κ)) (lent_mut (ascii "..."), tt)
+      (record { answer = tt; exit = (lent_mut (3 ∷ 10 ∷ 17 ∷ []), tt) })
+      (record { answer = tt; exit = (lent_mut (0 ∷ 7 ∷ 14 ∷ []), tt) })
   pub fill_step :
-      TellsOutcome (Fill.Post (one κ)) (lent (ascii "..."), tt)
-      (record { answer = tt; exit = (lent (3 ∷ 10 ∷ 17 ∷ []), tt) })
-      (record { answer = tt; exit = (lent (3 ∷ 12 ∷ 21 ∷ []), tt) })
+      TellsOutcome (Fill.Post (one κ)) (lent_mut (ascii "..."), tt)
+      (record { answer = tt; exit = (lent_mut (3 ∷ 10 ∷ 17 ∷ []), tt) })
+      (record { answer = tt; exit = (lent_mut (3 ∷ 12 ∷ 21 ∷ []), tt) })
   -- `card_row`: the discount for the net; the forecasts behind the settled; the credits for the debits; a refusal without its column
   pub card_row : OneAnswer CardRow.Post
   pub row_net : Tells (CardRow.Post tt) (accepted 5 1 one_sale, tt) (0 ∷ 0 ∷ 0 ∷ 20240229 ∷ 1 ∷ 5 ∷ 1 ∷ 0 ∷ 0 ∷ 0 ∷ 0 ∷ 1 ∷ 10000 ∷ 250 ∷ 9750 ∷ 0 ∷ 0 ∷ 0 ∷ 0 ∷ []) (0 ∷ 0 ∷ 0 ∷ 20240229 ∷ 1 ∷ 5 ∷ 1 ∷ 0 ∷ 0 ∷ 0 ∷ 0 ∷ 1 ∷ 10000 ∷ 250 ∷ 250 ∷ 0 ∷ 0 ∷ 0 ∷ 0 ∷ [])

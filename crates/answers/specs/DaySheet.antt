@@ -35,7 +35,7 @@ use Rattle.day_sheet.proofs.converter.convert.Reads as ConvertSheet
 use Rattle.edition.proofs.known.is_retired.Reads as IsRetired
 use Rattle.edition.proofs.known.fault_of.Reads as FaultOfEdition
 use Rattle.edition.proofs.edition_of.Reads as EditionOf
-use Rattle.answers.specs.Held.{OneAnswer, OneOutcome, Tells, TellsOutcome, lent, one, two}
+use Rattle.answers.specs.Held.{OneAnswer, OneOutcome, Tells, TellsOutcome, lent, lent_mut, one, two}
 
 -- a sheet of version 1 of an edition with a net
 abbrev heading : ℕ → Heading
@@ -90,13 +90,13 @@ pub record DaySheet (κ : Lft) : Type 0 where
   -- `Form::put`: low byte first; blanks for zeros
   pub puts : OneOutcome (λ κs s. s.1.1.0.now) Put.Post
   pub put_low_first :
-      TellsOutcome (Put.Post (one κ)) (Bytes, (258, (lent (room 2), tt)))
-      (record { answer = tt; exit = (Bytes, (258, (lent (1 ∷ 2 ∷ []), tt))) })
-      (record { answer = tt; exit = (Bytes, (258, (lent (2 ∷ 1 ∷ []), tt))) })
+      TellsOutcome (Put.Post (one κ)) (Bytes, (258, (lent_mut (room 2), tt)))
+      (record { answer = tt; exit = (Bytes, (258, (lent_mut (1 ∷ 2 ∷ []), tt))) })
+      (record { answer = tt; exit = (Bytes, (258, (lent_mut (2 ∷ 1 ∷ []), tt))) })
   pub put_blanks :
-      TellsOutcome (Put.Post (one κ)) (Digits, (42, (lent (room 4), tt)))
-      (record { answer = tt; exit = (Digits, (42, (lent (ascii "0042"), tt))) })
-      (record { answer = tt; exit = (Digits, (42, (lent (ascii "  42"), tt))) })
+      TellsOutcome (Put.Post (one κ)) (Digits, (42, (lent_mut (room 4), tt)))
+      (record { answer = tt; exit = (Digits, (42, (lent_mut (ascii "0042"), tt))) })
+      (record { answer = tt; exit = (Digits, (42, (lent_mut (ascii "  42"), tt))) })
   -- `Version::width`: one width for both
   pub width : OneAnswer Width.Post
   pub width_one : Tells (Width.Post tt) (One, tt) 52 81
@@ -162,113 +162,113 @@ pub record DaySheet (κ : Lft) : Type 0 where
   -- 2; the split as 0; the sets exchanged; the forecast's count low byte first
   pub write : OneOutcome (λ κs s. s.1.0.now) WriteSheet.Post
   pub write_refused :
-      TellsOutcome (WriteSheet.Post (one κ)) (sheet_of 2 9750, (lent (room 52), tt))
-      (record { answer = Written; exit = (sheet_of 2 9750, (lent (bytes_of (sheet_of 2 9750)), tt)) })
-      (record { answer = refused SheetNumbersNotAllowed; exit = (sheet_of 2 9750, (lent (room 52), tt)) })
+      TellsOutcome (WriteSheet.Post (one κ)) (sheet_of 2 9750, (lent_mut (room 52), tt))
+      (record { answer = Written; exit = (sheet_of 2 9750, (lent_mut (bytes_of (sheet_of 2 9750)), tt)) })
+      (record { answer = refused SheetNumbersNotAllowed; exit = (sheet_of 2 9750, (lent_mut (room 52), tt)) })
   pub write_past :
-      TellsOutcome (WriteSheet.Post (one κ)) (sheet_of 2 9750, (lent (room 53), tt))
-      (record { answer = Written; exit = (sheet_of 2 9750, (lent (bytes_of (sheet_of 2 9750) ++ room 1), tt)) })
-      (record { answer = Written; exit = (sheet_of 2 9750, (lent (bytes_of (sheet_of 2 9750) ++ ascii "\n"), tt)) })
+      TellsOutcome (WriteSheet.Post (one κ)) (sheet_of 2 9750, (lent_mut (room 53), tt))
+      (record { answer = Written; exit = (sheet_of 2 9750, (lent_mut (bytes_of (sheet_of 2 9750) ++ room 1), tt)) })
+      (record { answer = Written; exit = (sheet_of 2 9750, (lent_mut (bytes_of (sheet_of 2 9750) ++ ascii "\n"), tt)) })
   pub write_past_two :
-      TellsOutcome (WriteSheet.Post (one κ)) (both_sets, (lent (room 82), tt))
-      (record { answer = Written; exit = (both_sets, (lent (bytes_of both_sets ++ room 1), tt)) })
-      (record { answer = Written; exit = (both_sets, (lent (bytes_of both_sets ++ ascii "\n"), tt)) })
+      TellsOutcome (WriteSheet.Post (one κ)) (both_sets, (lent_mut (room 82), tt))
+      (record { answer = Written; exit = (both_sets, (lent_mut (bytes_of both_sets ++ room 1), tt)) })
+      (record { answer = Written; exit = (both_sets, (lent_mut (bytes_of both_sets ++ ascii "\n"), tt)) })
   pub write_order :
-      TellsOutcome (WriteSheet.Post (one κ)) (sheet_of 3 9750, (lent (room 51), tt))
-      (record { answer = refused SheetNumbersNotAllowed; exit = (sheet_of 3 9750, (lent (room 51), tt)) })
-      (record { answer = refused OutputTooShort; exit = (sheet_of 3 9750, (lent (room 51), tt)) })
+      TellsOutcome (WriteSheet.Post (one κ)) (sheet_of 3 9750, (lent_mut (room 51), tt))
+      (record { answer = refused SheetNumbersNotAllowed; exit = (sheet_of 3 9750, (lent_mut (room 51), tt)) })
+      (record { answer = refused OutputTooShort; exit = (sheet_of 3 9750, (lent_mut (room 51), tt)) })
   pub write_order_two :
-      TellsOutcome (WriteSheet.Post (one κ)) (split_sheet 2 forecasts settled, (lent (room 80), tt))
-      (record { answer = refused SheetNumbersNotAllowed; exit = (split_sheet 2 forecasts settled, (lent (room 80), tt)) })
-      (record { answer = refused OutputTooShort; exit = (split_sheet 2 forecasts settled, (lent (room 80), tt)) })
+      TellsOutcome (WriteSheet.Post (one κ)) (split_sheet 2 forecasts settled, (lent_mut (room 80), tt))
+      (record { answer = refused SheetNumbersNotAllowed; exit = (split_sheet 2 forecasts settled, (lent_mut (room 80), tt)) })
+      (record { answer = refused OutputTooShort; exit = (split_sheet 2 forecasts settled, (lent_mut (room 80), tt)) })
   pub write_short :
-      TellsOutcome (WriteSheet.Post (one κ)) (sheet_of 2 9750, (lent (room 51), tt))
-      (record { answer = refused OutputTooShort; exit = (sheet_of 2 9750, (lent (room 51), tt)) })
-      (record { answer = refused OutputTooShort; exit = (sheet_of 2 9750, (lent (take 51 (bytes_of (sheet_of 2 9750))), tt)) })
+      TellsOutcome (WriteSheet.Post (one κ)) (sheet_of 2 9750, (lent_mut (room 51), tt))
+      (record { answer = refused OutputTooShort; exit = (sheet_of 2 9750, (lent_mut (room 51), tt)) })
+      (record { answer = refused OutputTooShort; exit = (sheet_of 2 9750, (lent_mut (take 51 (bytes_of (sheet_of 2 9750))), tt)) })
   pub write_short_two :
-      TellsOutcome (WriteSheet.Post (one κ)) (both_sets, (lent (room 80), tt))
-      (record { answer = refused OutputTooShort; exit = (both_sets, (lent (room 80), tt)) })
-      (record { answer = Written; exit = (both_sets, (lent (take 80 (bytes_of both_sets)), tt)) })
+      TellsOutcome (WriteSheet.Post (one κ)) (both_sets, (lent_mut (room 80), tt))
+      (record { answer = refused OutputTooShort; exit = (both_sets, (lent_mut (room 80), tt)) })
+      (record { answer = Written; exit = (both_sets, (lent_mut (take 80 (bytes_of both_sets)), tt)) })
   pub write_split :
-      TellsOutcome (WriteSheet.Post (one κ)) (both_sets, (lent (room 81), tt))
-      (record { answer = Written; exit = (both_sets, (lent (bytes_of both_sets), tt)) })
-      (record { answer = Written; exit = (both_sets, (lent (bytes_of (split_sheet 0 forecasts settled)), tt)) })
+      TellsOutcome (WriteSheet.Post (one κ)) (both_sets, (lent_mut (room 81), tt))
+      (record { answer = Written; exit = (both_sets, (lent_mut (bytes_of both_sets), tt)) })
+      (record { answer = Written; exit = (both_sets, (lent_mut (bytes_of (split_sheet 0 forecasts settled)), tt)) })
   pub write_exchanged :
-      TellsOutcome (WriteSheet.Post (one κ)) (both_sets, (lent (room 81), tt))
-      (record { answer = Written; exit = (both_sets, (lent (bytes_of both_sets), tt)) })
-      (record { answer = Written; exit = (both_sets, (lent (bytes_of (split_sheet 1 settled forecasts)), tt)) })
+      TellsOutcome (WriteSheet.Post (one κ)) (both_sets, (lent_mut (room 81), tt))
+      (record { answer = Written; exit = (both_sets, (lent_mut (bytes_of both_sets), tt)) })
+      (record { answer = Written; exit = (both_sets, (lent_mut (bytes_of (split_sheet 1 settled forecasts)), tt)) })
   pub write_low_first :
-      TellsOutcome (WriteSheet.Post (one κ)) (both_sets, (lent (room 81), tt))
-      (record { answer = Written; exit = (both_sets, (lent (bytes_of both_sets), tt)) })
-      (record { answer = Written; exit = (both_sets, (lent (at 54 "\u{2}\0\0\0" (bytes_of both_sets)), tt)) })
+      TellsOutcome (WriteSheet.Post (one κ)) (both_sets, (lent_mut (room 81), tt))
+      (record { answer = Written; exit = (both_sets, (lent_mut (bytes_of both_sets), tt)) })
+      (record { answer = Written; exit = (both_sets, (lent_mut (at 54 "\u{2}\0\0\0" (bytes_of both_sets)), tt)) })
   -- a new sheet of edition 1 written, in version 1 and in version 2; 17 before 22, and 2; 22 for edition 3
   pub write_old :
-      TellsOutcome (WriteSheet.Post (one κ)) (sheet_of 1 9750, (lent (room 52), tt))
-      (record { answer = refused EditionRetired; exit = (sheet_of 1 9750, (lent (room 52), tt)) })
-      (record { answer = Written; exit = (sheet_of 1 9750, (lent (bytes_of (sheet_of 1 9750)), tt)) })
+      TellsOutcome (WriteSheet.Post (one κ)) (sheet_of 1 9750, (lent_mut (room 52), tt))
+      (record { answer = refused EditionRetired; exit = (sheet_of 1 9750, (lent_mut (room 52), tt)) })
+      (record { answer = Written; exit = (sheet_of 1 9750, (lent_mut (bytes_of (sheet_of 1 9750)), tt)) })
   pub write_old_two :
-      TellsOutcome (WriteSheet.Post (one κ)) (old_sets, (lent (room 81), tt))
-      (record { answer = refused EditionRetired; exit = (old_sets, (lent (room 81), tt)) })
-      (record { answer = Written; exit = (old_sets, (lent (bytes_of old_sets), tt)) })
+      TellsOutcome (WriteSheet.Post (one κ)) (old_sets, (lent_mut (room 81), tt))
+      (record { answer = refused EditionRetired; exit = (old_sets, (lent_mut (room 81), tt)) })
+      (record { answer = Written; exit = (old_sets, (lent_mut (bytes_of old_sets), tt)) })
   pub write_old_numbers :
-      TellsOutcome (WriteSheet.Post (one κ)) (sheet_of 1 9751, (lent (room 52), tt))
-      (record { answer = refused EditionRetired; exit = (sheet_of 1 9751, (lent (room 52), tt)) })
-      (record { answer = refused SheetNumbersNotAllowed; exit = (sheet_of 1 9751, (lent (room 52), tt)) })
+      TellsOutcome (WriteSheet.Post (one κ)) (sheet_of 1 9751, (lent_mut (room 52), tt))
+      (record { answer = refused EditionRetired; exit = (sheet_of 1 9751, (lent_mut (room 52), tt)) })
+      (record { answer = refused SheetNumbersNotAllowed; exit = (sheet_of 1 9751, (lent_mut (room 52), tt)) })
   pub write_old_short :
-      TellsOutcome (WriteSheet.Post (one κ)) (sheet_of 1 9750, (lent (room 51), tt))
-      (record { answer = refused EditionRetired; exit = (sheet_of 1 9750, (lent (room 51), tt)) })
-      (record { answer = refused OutputTooShort; exit = (sheet_of 1 9750, (lent (room 51), tt)) })
+      TellsOutcome (WriteSheet.Post (one κ)) (sheet_of 1 9750, (lent_mut (room 51), tt))
+      (record { answer = refused EditionRetired; exit = (sheet_of 1 9750, (lent_mut (room 51), tt)) })
+      (record { answer = refused OutputTooShort; exit = (sheet_of 1 9750, (lent_mut (room 51), tt)) })
   pub write_3 :
-      TellsOutcome (WriteSheet.Post (one κ)) (sheet_of 3 9750, (lent (room 52), tt))
-      (record { answer = refused SheetNumbersNotAllowed; exit = (sheet_of 3 9750, (lent (room 52), tt)) })
-      (record { answer = refused EditionRetired; exit = (sheet_of 3 9750, (lent (room 52), tt)) })
+      TellsOutcome (WriteSheet.Post (one κ)) (sheet_of 3 9750, (lent_mut (room 52), tt))
+      (record { answer = refused SheetNumbersNotAllowed; exit = (sheet_of 3 9750, (lent_mut (room 52), tt)) })
+      (record { answer = refused EditionRetired; exit = (sheet_of 3 9750, (lent_mut (room 52), tt)) })
   -- `convert`: the split told as known; what is lent as output filled where the sheet is not readable, 2 before that refusal, and 17 for 15; 80 bytes enough from 1 to 2, 81
   -- wanted from 2 to 1; a byte past what is written changed; the settled alone; the same version again; a sheet of edition 1 refused, or become one of edition 2
   pub convert : OneOutcome (λ κs s. s.1.0.now) ConvertSheet.Post
   pub convert_split :
-      TellsOutcome (ConvertSheet.Post (two κ)) (lent (bytes_of (sheet_of 2 9750)), (lent (room 81), tt))
-      (record { answer = Written; exit = (lent (bytes_of (sheet_of 2 9750)), (lent (bytes_of (split_sheet 0 no_totals settled)), tt)) })
-      (record { answer = Written; exit = (lent (bytes_of (sheet_of 2 9750)), (lent (bytes_of (split_sheet 1 no_totals settled)), tt)) })
+      TellsOutcome (ConvertSheet.Post (two κ)) (lent (bytes_of (sheet_of 2 9750)), (lent_mut (room 81), tt))
+      (record { answer = Written; exit = (lent (bytes_of (sheet_of 2 9750)), (lent_mut (bytes_of (split_sheet 0 no_totals settled)), tt)) })
+      (record { answer = Written; exit = (lent (bytes_of (sheet_of 2 9750)), (lent_mut (bytes_of (split_sheet 1 no_totals settled)), tt)) })
   pub convert_unreadable :
-      TellsOutcome (ConvertSheet.Post (two κ)) (lent (bytes_of (sheet_of 2 9751)), (lent (room 81), tt))
-      (record { answer = refused SheetNumbersNotAllowed; exit = (lent (bytes_of (sheet_of 2 9751)), (lent (room 81), tt)) })
-      (record { answer = refused SheetNumbersNotAllowed; exit = (lent (bytes_of (sheet_of 2 9751)), (lent (bytes_of (split_sheet 0 no_totals (totals_of 1 (amounts 10000 250 9751)))), tt)) })
+      TellsOutcome (ConvertSheet.Post (two κ)) (lent (bytes_of (sheet_of 2 9751)), (lent_mut (room 81), tt))
+      (record { answer = refused SheetNumbersNotAllowed; exit = (lent (bytes_of (sheet_of 2 9751)), (lent_mut (room 81), tt)) })
+      (record { answer = refused SheetNumbersNotAllowed; exit = (lent (bytes_of (sheet_of 2 9751)), (lent_mut (bytes_of (split_sheet 0 no_totals (totals_of 1 (amounts 10000 250 9751)))), tt)) })
   pub convert_order :
-      TellsOutcome (ConvertSheet.Post (two κ)) (lent (bytes_of (sheet_of 3 9750)), (lent (room 0), tt))
-      (record { answer = refused SheetNumbersNotAllowed; exit = (lent (bytes_of (sheet_of 3 9750)), (lent (room 0), tt)) })
-      (record { answer = refused OutputTooShort; exit = (lent (bytes_of (sheet_of 3 9750)), (lent (room 0), tt)) })
+      TellsOutcome (ConvertSheet.Post (two κ)) (lent (bytes_of (sheet_of 3 9750)), (lent_mut (room 0), tt))
+      (record { answer = refused SheetNumbersNotAllowed; exit = (lent (bytes_of (sheet_of 3 9750)), (lent_mut (room 0), tt)) })
+      (record { answer = refused OutputTooShort; exit = (lent (bytes_of (sheet_of 3 9750)), (lent_mut (room 0), tt)) })
   pub convert_no_sheet :
-      TellsOutcome (ConvertSheet.Post (two κ)) (lent (take 51 (bytes_of (sheet_of 2 9750))), (lent (room 81), tt))
-      (record { answer = refused NotADaySheet; exit = (lent (take 51 (bytes_of (sheet_of 2 9750))), (lent (room 81), tt)) })
-      (record { answer = refused SheetNumbersNotAllowed; exit = (lent (take 51 (bytes_of (sheet_of 2 9750))), (lent (room 81), tt)) })
+      TellsOutcome (ConvertSheet.Post (two κ)) (lent (take 51 (bytes_of (sheet_of 2 9750))), (lent_mut (room 81), tt))
+      (record { answer = refused NotADaySheet; exit = (lent (take 51 (bytes_of (sheet_of 2 9750))), (lent_mut (room 81), tt)) })
+      (record { answer = refused SheetNumbersNotAllowed; exit = (lent (take 51 (bytes_of (sheet_of 2 9750))), (lent_mut (room 81), tt)) })
   pub convert_short :
-      TellsOutcome (ConvertSheet.Post (two κ)) (lent (bytes_of (sheet_of 2 9750)), (lent (room 80), tt))
-      (record { answer = refused OutputTooShort; exit = (lent (bytes_of (sheet_of 2 9750)), (lent (room 80), tt)) })
-      (record { answer = Written; exit = (lent (bytes_of (sheet_of 2 9750)), (lent (take 80 (bytes_of (split_sheet 0 no_totals settled))), tt)) })
+      TellsOutcome (ConvertSheet.Post (two κ)) (lent (bytes_of (sheet_of 2 9750)), (lent_mut (room 80), tt))
+      (record { answer = refused OutputTooShort; exit = (lent (bytes_of (sheet_of 2 9750)), (lent_mut (room 80), tt)) })
+      (record { answer = Written; exit = (lent (bytes_of (sheet_of 2 9750)), (lent_mut (take 80 (bytes_of (split_sheet 0 no_totals settled))), tt)) })
   pub convert_room :
-      TellsOutcome (ConvertSheet.Post (two κ)) (lent (bytes_of both_sets), (lent (room 52), tt))
-      (record { answer = Written; exit = (lent (bytes_of both_sets), (lent (bytes_of added), tt)) })
-      (record { answer = refused OutputTooShort; exit = (lent (bytes_of both_sets), (lent (room 52), tt)) })
+      TellsOutcome (ConvertSheet.Post (two κ)) (lent (bytes_of both_sets), (lent_mut (room 52), tt))
+      (record { answer = Written; exit = (lent (bytes_of both_sets), (lent_mut (bytes_of added), tt)) })
+      (record { answer = refused OutputTooShort; exit = (lent (bytes_of both_sets), (lent_mut (room 52), tt)) })
   pub convert_past :
-      TellsOutcome (ConvertSheet.Post (two κ)) (lent (bytes_of both_sets), (lent (room 53), tt))
-      (record { answer = Written; exit = (lent (bytes_of both_sets), (lent (bytes_of added ++ room 1), tt)) })
-      (record { answer = Written; exit = (lent (bytes_of both_sets), (lent (bytes_of added ++ ascii "\n"), tt)) })
+      TellsOutcome (ConvertSheet.Post (two κ)) (lent (bytes_of both_sets), (lent_mut (room 53), tt))
+      (record { answer = Written; exit = (lent (bytes_of both_sets), (lent_mut (bytes_of added ++ room 1), tt)) })
+      (record { answer = Written; exit = (lent (bytes_of both_sets), (lent_mut (bytes_of added ++ ascii "\n"), tt)) })
   pub convert_settled :
-      TellsOutcome (ConvertSheet.Post (two κ)) (lent (bytes_of both_sets), (lent (room 52), tt))
-      (record { answer = Written; exit = (lent (bytes_of both_sets), (lent (bytes_of added), tt)) })
-      (record { answer = Written; exit = (lent (bytes_of both_sets), (lent (bytes_of (sheet_of 2 9750)), tt)) })
+      TellsOutcome (ConvertSheet.Post (two κ)) (lent (bytes_of both_sets), (lent_mut (room 52), tt))
+      (record { answer = Written; exit = (lent (bytes_of both_sets), (lent_mut (bytes_of added), tt)) })
+      (record { answer = Written; exit = (lent (bytes_of both_sets), (lent_mut (bytes_of (sheet_of 2 9750)), tt)) })
   pub convert_same :
-      TellsOutcome (ConvertSheet.Post (two κ)) (lent (bytes_of (sheet_of 2 9750)), (lent (room 81), tt))
-      (record { answer = Written; exit = (lent (bytes_of (sheet_of 2 9750)), (lent (bytes_of (split_sheet 0 no_totals settled)), tt)) })
-      (record { answer = Written; exit = (lent (bytes_of (sheet_of 2 9750)), (lent (bytes_of (sheet_of 2 9750) ++ room 29), tt)) })
+      TellsOutcome (ConvertSheet.Post (two κ)) (lent (bytes_of (sheet_of 2 9750)), (lent_mut (room 81), tt))
+      (record { answer = Written; exit = (lent (bytes_of (sheet_of 2 9750)), (lent_mut (bytes_of (split_sheet 0 no_totals settled)), tt)) })
+      (record { answer = Written; exit = (lent (bytes_of (sheet_of 2 9750)), (lent_mut (bytes_of (sheet_of 2 9750) ++ room 29), tt)) })
   pub convert_old :
-      TellsOutcome (ConvertSheet.Post (two κ)) (lent (bytes_of old_sets), (lent (room 52), tt))
-      (record { answer = Written; exit = (lent (bytes_of old_sets), (lent (bytes_of old_added), tt)) })
-      (record { answer = refused EditionRetired; exit = (lent (bytes_of old_sets), (lent (room 52), tt)) })
+      TellsOutcome (ConvertSheet.Post (two κ)) (lent (bytes_of old_sets), (lent_mut (room 52), tt))
+      (record { answer = Written; exit = (lent (bytes_of old_sets), (lent_mut (bytes_of old_added), tt)) })
+      (record { answer = refused EditionRetired; exit = (lent (bytes_of old_sets), (lent_mut (room 52), tt)) })
   pub convert_old_edition :
-      TellsOutcome (ConvertSheet.Post (two κ)) (lent (bytes_of old_sets), (lent (room 52), tt))
-      (record { answer = Written; exit = (lent (bytes_of old_sets), (lent (bytes_of old_added), tt)) })
-      (record { answer = Written; exit = (lent (bytes_of old_sets), (lent (bytes_of added), tt)) })
+      TellsOutcome (ConvertSheet.Post (two κ)) (lent (bytes_of old_sets), (lent_mut (room 52), tt))
+      (record { answer = Written; exit = (lent (bytes_of old_sets), (lent_mut (bytes_of old_added), tt)) })
+      (record { answer = Written; exit = (lent (bytes_of old_sets), (lent_mut (bytes_of added), tt)) })
   -- `is_retired`: an edition cut down to a byte, 257 to 1; edition 2 retired; edition 1 not
   pub is_retired : OneAnswer IsRetired.Post
   pub is_retired_257 : Tells (IsRetired.Post tt) (257, tt) false true

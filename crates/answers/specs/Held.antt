@@ -3,7 +3,7 @@
 use Rattle.std.specs.Prelude.{ℕ, ◌≡◌, List}
 use contract.Lifetimes.{Lfts}
 use base.Fml.{Lft}
-use Rattle.std.specs.Borrow.{Bor}
+use Rattle.std.specs.Borrow.{Bor, MutBor}
 
 -- "For any two answers that satisfy the statement, equality is proved"
 abbrev pub OneAnswer : {L : Type 0} {A R S : L → Type 0} → ((κs : L) → A κs → R κs → S κs → Type 0) → Type 0
@@ -46,6 +46,10 @@ part place s = record { ref_ptr = (0, place); now = s }
 
 abbrev pub lent : List ℕ → Bor (List ℕ)
 lent = part 0
+
+-- bytes that are lent to be written
+abbrev pub lent_mut : List ℕ → MutBor (List ℕ)
+lent_mut s = record { ref_ptr = (0, 0); ghost_name = 0; now = s }
 
 -- the lifetimes of one lent slice, of two and of three
 abbrev pub one : Lft → Lfts 1

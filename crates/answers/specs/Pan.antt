@@ -7,7 +7,7 @@ use Rattle.pan.proofs.well_formed.Reads as WellFormed
 use Rattle.pan.proofs.valid_characters.Reads as ValidCharacters
 use Rattle.pan.proofs.hidden_places.Reads as HiddenPlaces
 use Rattle.pan.proofs.mask.Reads as Mask
-use Rattle.answers.specs.Held.{OneAnswer, OnePart, OneOutcome, Tells, TellsOutcome, lent, part, one}
+use Rattle.answers.specs.Held.{OneAnswer, OnePart, OneOutcome, Tells, TellsOutcome, lent, lent_mut, part, one}
 
 abbrev places : ℕ → ℕ → Places
 places from to = record { from = from; to = to }
@@ -30,10 +30,10 @@ pub record Pan (κ : Lft) : Type 0 where
   -- `mask`: nothing masked; a card of 16 masked as one of 15
   pub mask : OneOutcome (λ κs s. s.0.now) Mask.Post
   pub mask_nothing :
-      TellsOutcome (Mask.Post (one κ)) (lent (ascii "0001234567890123456"), tt)
-      (record { answer = tt; exit = (lent (ascii "000123456******3456"), tt) })
-      (record { answer = tt; exit = (lent (ascii "0001234567890123456"), tt) })
+      TellsOutcome (Mask.Post (one κ)) (lent_mut (ascii "0001234567890123456"), tt)
+      (record { answer = tt; exit = (lent_mut (ascii "000123456******3456"), tt) })
+      (record { answer = tt; exit = (lent_mut (ascii "0001234567890123456"), tt) })
   pub mask_sixteen :
-      TellsOutcome (Mask.Post (one κ)) (lent (ascii "0001234567890123456"), tt)
-      (record { answer = tt; exit = (lent (ascii "000123456******3456"), tt) })
-      (record { answer = tt; exit = (lent (ascii "0001234********3456"), tt) })
+      TellsOutcome (Mask.Post (one κ)) (lent_mut (ascii "0001234567890123456"), tt)
+      (record { answer = tt; exit = (lent_mut (ascii "000123456******3456"), tt) })
+      (record { answer = tt; exit = (lent_mut (ascii "0001234********3456"), tt) })

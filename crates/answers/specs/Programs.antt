@@ -45,7 +45,7 @@ use Rattle.payroll_program.proofs.outcome.is_decided.Reads as IsDecidedPayroll
 use Rattle.payroll_program.proofs.outcome.outcome_at.Reads as PayrollOutcomeAt
 use Rattle.payroll_program.proofs.check.check.Reads as CheckPayroll
 use Rattle.payroll_program.proofs.check.check_file.Reads as CheckPayrollFile
-use Rattle.answers.specs.Held.{OneAnswer, Tells, lent, one, two, three}
+use Rattle.answers.specs.Held.{OneAnswer, Tells, lent, lent_mut, one, two, three}
 use Rattle.answers.specs.Samples.{at, sale, card_file}
 use Rattle.answers.specs.Totals.{amounts, settled}
 use Rattle.answers.specs.CardRun.{refusal, one_sale, accepted}
@@ -80,9 +80,9 @@ pub record Programs (κ : Lft) (fd : ℤ) : Type 0 where
   pub argument_of_long : Tells (ArgumentOf.Post tt) (0, (36, tt)) TooLong (given 0)
   pub argument_of_whole : Tells (ArgumentOf.Post tt) (1, (0, tt)) (given 1) TooLong
   -- `argument::read` and `read_three`: more bytes than there is room for
-  pub argument_room : Tells (ReadArgument.Post (one κ)) (1, (lent (ascii "2"), tt)) (given 1) (given 2)
+  pub argument_room : Tells (ReadArgument.Post (one κ)) (1, (lent_mut (ascii "2"), tt)) (given 1) (given 2)
   pub three_room :
-      Tells (ReadThree.Post (three κ)) (lent (ascii "2"), (lent (ascii "ab"), (lent (ascii "c"), tt))) (three_given 1 2 1) (three_given 1 2 2)
+      Tells (ReadThree.Post (three κ)) (lent_mut (ascii "2"), (lent_mut (ascii "ab"), (lent_mut (ascii "c"), tt))) (three_given 1 2 1) (three_given 1 2 2)
   -- `card_program::is_decided`: decided while the file goes on; a refusal that no further byte can change left open
   pub decided : OneAnswer IsDecided.Post
   pub decided_going_on : Tells (IsDecided.Post tt) (GoingOn, tt) false true

@@ -25,7 +25,7 @@ use Rattle.out_file.proofs.draft.Draft.write.Reads as DraftWrite
 use Rattle.out_file.proofs.draft.Draft.keep.Reads as Keep
 use Rattle.out_file.proofs.draft.Draft.discard.Reads as Discard
 use Rattle.out_file.proofs.draft.Draft.saved.Reads as SavedAs
-use Rattle.answers.specs.Held.{OneAnswer, Tells, lent, one}
+use Rattle.answers.specs.Held.{OneAnswer, Tells, lent, lent_mut, one}
 
 -- a file in the making at a step
 abbrev draft_at : Step → Draft
@@ -41,10 +41,10 @@ pub record Saving (κ : Lft) (fd : ℤ) : Type 0 where
   pub got_of_no_room : Tells (GotOf.Post (one κ)) (pos 0, (5, (lent (ascii ""), tt))) (Failed 5) End
   pub got_of_more : Tells (GotOf.Post (one κ)) (pos 9, (5, (lent (ascii "...."), tt))) (Bytes 4) (Bytes 9)
   -- `read_some`: more bytes than there is room for; no byte, which is the end
-  pub read_some_room : Tells (ReadSome.Post (one κ)) (fd, (lent (ascii "...."), tt)) (Bytes 4) (Bytes 5)
-  pub read_some_none : Tells (ReadSome.Post (one κ)) (fd, (lent (ascii "...."), tt)) End (Bytes 0)
+  pub read_some_room : Tells (ReadSome.Post (one κ)) (fd, (lent_mut (ascii "...."), tt)) (Bytes 4) (Bytes 5)
+  pub read_some_none : Tells (ReadSome.Post (one κ)) (fd, (lent_mut (ascii "...."), tt)) End (Bytes 0)
   -- `read_all`: more bytes than there is room for
-  pub read_all_room : Tells (ReadAll.Post (one κ)) (fd, (lent (ascii "...."), tt)) (loaded 4) (loaded 5)
+  pub read_all_room : Tells (ReadAll.Post (one κ)) (fd, (lent_mut (ascii "...."), tt)) (loaded 4) (loaded 5)
   -- `Step::next`: a name for a file that could not be closed; a file stored that is not to stay
   pub next : OneAnswer Next.Post
   pub next_unclosed : Tells (Next.Post tt) (Close, (Wrong, tt)) Remove Rename

@@ -33,7 +33,7 @@ use Rattle.sheet_program.proofs.verdict.put_outcome.Reads as PutSheet
 use Rattle.card_program.proofs.verdict.descriptor.Reads as Descriptor
 use Rattle.payroll_program.proofs.verdict.descriptor.Reads as PayrollDescriptor
 use Rattle.sheet_program.proofs.verdict.descriptor.Reads as SheetDescriptor
-use Rattle.answers.specs.Held.{OneAnswer, OneOutcome, Tells, TellsOutcome, lent, one, two}
+use Rattle.answers.specs.Held.{OneAnswer, OneOutcome, Tells, TellsOutcome, lent, lent_mut, one, two}
 use Rattle.answers.specs.Samples.{room}
 use Rattle.answers.specs.Totals.{amounts, totals_of}
 use Rattle.answers.specs.CardRun.{refusal, one_sale, adjusted, numbers_with, accepted}
@@ -84,144 +84,144 @@ pub record Texts (κ : Lft) : Type 0 where
   -- `put::text`: put at the start though bytes stand there; counted past the buffer's end
   pub text : OneOutcome (λ κs s. s.1.0.now) PutText.Post
   pub text_at_start :
-      TellsOutcome (PutText.Post (two κ)) (lent (ascii "ab"), (lent (ascii "...."), (1, tt)))
-      (record { answer = 3; exit = (lent (ascii "ab"), (lent (ascii ".ab."), (1, tt))) })
-      (record { answer = 3; exit = (lent (ascii "ab"), (lent (ascii "ab.."), (1, tt))) })
+      TellsOutcome (PutText.Post (two κ)) (lent (ascii "ab"), (lent_mut (ascii "...."), (1, tt)))
+      (record { answer = 3; exit = (lent (ascii "ab"), (lent_mut (ascii ".ab."), (1, tt))) })
+      (record { answer = 3; exit = (lent (ascii "ab"), (lent_mut (ascii "ab.."), (1, tt))) })
   pub text_past_the_end :
-      TellsOutcome (PutText.Post (two κ)) (lent (ascii "ab"), (lent (ascii ".."), (1, tt)))
-      (record { answer = 2; exit = (lent (ascii "ab"), (lent (ascii ".a"), (1, tt))) })
-      (record { answer = 3; exit = (lent (ascii "ab"), (lent (ascii ".a"), (1, tt))) })
+      TellsOutcome (PutText.Post (two κ)) (lent (ascii "ab"), (lent_mut (ascii ".."), (1, tt)))
+      (record { answer = 2; exit = (lent (ascii "ab"), (lent_mut (ascii ".a"), (1, tt))) })
+      (record { answer = 3; exit = (lent (ascii "ab"), (lent_mut (ascii ".a"), (1, tt))) })
   -- `put::number`: a zero in front; no digit for 0; the digits from the last
   pub number : OneOutcome (λ κs s. s.1.0.now) PutNumber.Post
   pub number_padded :
-      TellsOutcome (PutNumber.Post (one κ)) (5, (lent (room 3), (0, tt)))
-      (record { answer = 1; exit = (5, (lent (shown 3 "5"), (0, tt))) })
-      (record { answer = 2; exit = (5, (lent (shown 3 "05"), (0, tt))) })
+      TellsOutcome (PutNumber.Post (one κ)) (5, (lent_mut (room 3), (0, tt)))
+      (record { answer = 1; exit = (5, (lent_mut (shown 3 "5"), (0, tt))) })
+      (record { answer = 2; exit = (5, (lent_mut (shown 3 "05"), (0, tt))) })
   pub number_zero :
-      TellsOutcome (PutNumber.Post (one κ)) (0, (lent (room 3), (0, tt)))
-      (record { answer = 1; exit = (0, (lent (shown 3 "0"), (0, tt))) })
-      (record { answer = 0; exit = (0, (lent (room 3), (0, tt))) })
+      TellsOutcome (PutNumber.Post (one κ)) (0, (lent_mut (room 3), (0, tt)))
+      (record { answer = 1; exit = (0, (lent_mut (shown 3 "0"), (0, tt))) })
+      (record { answer = 0; exit = (0, (lent_mut (room 3), (0, tt))) })
   pub number_from_the_last :
-      TellsOutcome (PutNumber.Post (one κ)) (194, (lent (room 3), (0, tt)))
-      (record { answer = 3; exit = (194, (lent (ascii "194"), (0, tt))) })
-      (record { answer = 3; exit = (194, (lent (ascii "491"), (0, tt))) })
+      TellsOutcome (PutNumber.Post (one κ)) (194, (lent_mut (room 3), (0, tt)))
+      (record { answer = 3; exit = (194, (lent_mut (ascii "194"), (0, tt))) })
+      (record { answer = 3; exit = (194, (lent_mut (ascii "491"), (0, tt))) })
   -- `line::line`: no line end; the number first
   pub line : OneOutcome (λ κs s. s.1.1.0.now) PutLine.Post
   pub line_no_end :
-      TellsOutcome (PutLine.Post (two κ)) (lent (ascii "SALES"), (4, (lent (room 9), (0, tt))))
-      (record { answer = 8; exit = (lent (ascii "SALES"), (4, (lent (shown 9 "SALES 4\n"), (0, tt)))) })
-      (record { answer = 7; exit = (lent (ascii "SALES"), (4, (lent (shown 9 "SALES 4"), (0, tt)))) })
+      TellsOutcome (PutLine.Post (two κ)) (lent (ascii "SALES"), (4, (lent_mut (room 9), (0, tt))))
+      (record { answer = 8; exit = (lent (ascii "SALES"), (4, (lent_mut (shown 9 "SALES 4\n"), (0, tt)))) })
+      (record { answer = 7; exit = (lent (ascii "SALES"), (4, (lent_mut (shown 9 "SALES 4"), (0, tt)))) })
   pub line_number_first :
-      TellsOutcome (PutLine.Post (two κ)) (lent (ascii "SALES"), (4, (lent (room 9), (0, tt))))
-      (record { answer = 8; exit = (lent (ascii "SALES"), (4, (lent (shown 9 "SALES 4\n"), (0, tt)))) })
-      (record { answer = 8; exit = (lent (ascii "SALES"), (4, (lent (shown 9 "4 SALES\n"), (0, tt)))) })
+      TellsOutcome (PutLine.Post (two κ)) (lent (ascii "SALES"), (4, (lent_mut (room 9), (0, tt))))
+      (record { answer = 8; exit = (lent (ascii "SALES"), (4, (lent_mut (shown 9 "SALES 4\n"), (0, tt)))) })
+      (record { answer = 8; exit = (lent (ascii "SALES"), (4, (lent_mut (shown 9 "4 SALES\n"), (0, tt)))) })
   -- `line::refused`: record and column exchanged; the cause counted from 0
   pub refused : OneOutcome (λ κs s. s.1.0.now) PutRefused.Post
   pub refused_exchanged :
-      TellsOutcome (PutRefused.Post (one κ)) (late, (lent (room 32), (0, tt)))
-      (record { answer = 30; exit = (late, (lent (shown 32 "REFUSED 9 RECORD 3 COLUMN 194\n"), (0, tt))) })
-      (record { answer = 30; exit = (late, (lent (shown 32 "REFUSED 9 RECORD 194 COLUMN 3\n"), (0, tt))) })
+      TellsOutcome (PutRefused.Post (one κ)) (late, (lent_mut (room 32), (0, tt)))
+      (record { answer = 30; exit = (late, (lent_mut (shown 32 "REFUSED 9 RECORD 3 COLUMN 194\n"), (0, tt))) })
+      (record { answer = 30; exit = (late, (lent_mut (shown 32 "REFUSED 9 RECORD 194 COLUMN 3\n"), (0, tt))) })
   pub refused_from_0 :
-      TellsOutcome (PutRefused.Post (one κ)) (late, (lent (room 32), (0, tt)))
-      (record { answer = 30; exit = (late, (lent (shown 32 "REFUSED 9 RECORD 3 COLUMN 194\n"), (0, tt))) })
-      (record { answer = 30; exit = (late, (lent (shown 32 "REFUSED 8 RECORD 3 COLUMN 194\n"), (0, tt))) })
+      TellsOutcome (PutRefused.Post (one κ)) (late, (lent_mut (room 32), (0, tt)))
+      (record { answer = 30; exit = (late, (lent_mut (shown 32 "REFUSED 9 RECORD 3 COLUMN 194\n"), (0, tt))) })
+      (record { answer = 30; exit = (late, (lent_mut (shown 32 "REFUSED 8 RECORD 3 COLUMN 194\n"), (0, tt))) })
   -- `mistake::put`: an OUT that is written told as one that is not; another reason
   pub mistake : OneOutcome (λ κs s. s.1.0.now) PutMistake.Post
   pub mistake_unwritten :
-      TellsOutcome (PutMistake.Post (one κ)) (unsynced, (lent (room 120), (0, tt)))
-      (record { answer = 104; exit = (unsynced, (lent (shown 120 "OUT is written, but its folder cannot be synced, so see that it outlasts a power cut: Permission denied\n"), (0, tt))) })
-      (record { answer = 104; exit = (unsynced, (lent (shown 120 "OUT cannot be written, so give a file's name in a folder where you may write: Permission denied\n"), (0, tt))) })
+      TellsOutcome (PutMistake.Post (one κ)) (unsynced, (lent_mut (room 120), (0, tt)))
+      (record { answer = 104; exit = (unsynced, (lent_mut (shown 120 "OUT is written, but its folder cannot be synced, so see that it outlasts a power cut: Permission denied\n"), (0, tt))) })
+      (record { answer = 104; exit = (unsynced, (lent_mut (shown 120 "OUT cannot be written, so give a file's name in a folder where you may write: Permission denied\n"), (0, tt))) })
   pub mistake_reason :
-      TellsOutcome (PutMistake.Post (one κ)) (unsynced, (lent (room 120), (0, tt)))
-      (record { answer = 104; exit = (unsynced, (lent (shown 120 "OUT is written, but its folder cannot be synced, so see that it outlasts a power cut: Permission denied\n"), (0, tt))) })
-      (record { answer = 104; exit = (unsynced, (lent (shown 120 "OUT is written, but its folder cannot be synced, so see that it outlasts a power cut: Read-only file system\n"), (0, tt))) })
+      TellsOutcome (PutMistake.Post (one κ)) (unsynced, (lent_mut (room 120), (0, tt)))
+      (record { answer = 104; exit = (unsynced, (lent_mut (shown 120 "OUT is written, but its folder cannot be synced, so see that it outlasts a power cut: Permission denied\n"), (0, tt))) })
+      (record { answer = 104; exit = (unsynced, (lent_mut (shown 120 "OUT is written, but its folder cannot be synced, so see that it outlasts a power cut: Read-only file system\n"), (0, tt))) })
   -- `put_totals`: gross and net exchanged; no line of the discount; a word that leads the first line alone
   pub totals : OneOutcome (λ κs s. s.1.1.0.now) PutTotals.Post
   pub totals_exchanged :
-      TellsOutcome (PutTotals.Post (two κ)) (lent [], (day, (lent (room 50), (0, tt))))
-      (record { answer = 44; exit = (lent [], (day, (lent (shown 50 "SALES 4\nGROSS 65990\nDISCOUNT 1650\nNET 64340\n"), (0, tt)))) })
-      (record { answer = 44; exit = (lent [], (day, (lent (shown 50 "SALES 4\nGROSS 64340\nDISCOUNT 1650\nNET 65990\n"), (0, tt)))) })
+      TellsOutcome (PutTotals.Post (two κ)) (lent [], (day, (lent_mut (room 50), (0, tt))))
+      (record { answer = 44; exit = (lent [], (day, (lent_mut (shown 50 "SALES 4\nGROSS 65990\nDISCOUNT 1650\nNET 64340\n"), (0, tt)))) })
+      (record { answer = 44; exit = (lent [], (day, (lent_mut (shown 50 "SALES 4\nGROSS 64340\nDISCOUNT 1650\nNET 65990\n"), (0, tt)))) })
   pub totals_no_discount :
-      TellsOutcome (PutTotals.Post (two κ)) (lent [], (day, (lent (room 50), (0, tt))))
-      (record { answer = 44; exit = (lent [], (day, (lent (shown 50 "SALES 4\nGROSS 65990\nDISCOUNT 1650\nNET 64340\n"), (0, tt)))) })
-      (record { answer = 30; exit = (lent [], (day, (lent (shown 50 "SALES 4\nGROSS 65990\nNET 64340\n"), (0, tt)))) })
+      TellsOutcome (PutTotals.Post (two κ)) (lent [], (day, (lent_mut (room 50), (0, tt))))
+      (record { answer = 44; exit = (lent [], (day, (lent_mut (shown 50 "SALES 4\nGROSS 65990\nDISCOUNT 1650\nNET 64340\n"), (0, tt)))) })
+      (record { answer = 30; exit = (lent [], (day, (lent_mut (shown 50 "SALES 4\nGROSS 65990\nNET 64340\n"), (0, tt)))) })
   pub totals_led_once :
-      TellsOutcome (PutTotals.Post (two κ)) (lent (ascii "ALL "), (day, (lent (room 60), (0, tt))))
-      (record { answer = 60; exit = (lent (ascii "ALL "), (day, (lent (shown 60 "ALL SALES 4\nALL GROSS 65990\nALL DISCOUNT 1650\nALL NET 64340\n"), (0, tt)))) })
-      (record { answer = 48; exit = (lent (ascii "ALL "), (day, (lent (shown 60 "ALL SALES 4\nGROSS 65990\nDISCOUNT 1650\nNET 64340\n"), (0, tt)))) })
+      TellsOutcome (PutTotals.Post (two κ)) (lent (ascii "ALL "), (day, (lent_mut (room 60), (0, tt))))
+      (record { answer = 60; exit = (lent (ascii "ALL "), (day, (lent_mut (shown 60 "ALL SALES 4\nALL GROSS 65990\nALL DISCOUNT 1650\nALL NET 64340\n"), (0, tt)))) })
+      (record { answer = 48; exit = (lent (ascii "ALL "), (day, (lent_mut (shown 60 "ALL SALES 4\nGROSS 65990\nDISCOUNT 1650\nNET 64340\n"), (0, tt)))) })
   -- `put_sets`: the settled first; a set without sales left out
   pub sets : OneOutcome (λ κs s. s.1.0.now) PutSets.Post
   pub sets_exchanged :
-      TellsOutcome (PutSets.Post (one κ)) (one_sale, (lent (room 147), (0, tt)))
-      (record { answer = 143; exit = (one_sale, (lent (shown 147 "FORECAST SALES 0\nFORECAST GROSS 0\nFORECAST DISCOUNT 0\nFORECAST NET 0\nSETTLED SALES 1\nSETTLED GROSS 10000\nSETTLED DISCOUNT 250\nSETTLED NET 9750\n"), (0, tt))) })
-      (record { answer = 143; exit = (one_sale, (lent (shown 147 "SETTLED SALES 1\nSETTLED GROSS 10000\nSETTLED DISCOUNT 250\nSETTLED NET 9750\nFORECAST SALES 0\nFORECAST GROSS 0\nFORECAST DISCOUNT 0\nFORECAST NET 0\n"), (0, tt))) })
+      TellsOutcome (PutSets.Post (one κ)) (one_sale, (lent_mut (room 147), (0, tt)))
+      (record { answer = 143; exit = (one_sale, (lent_mut (shown 147 "FORECAST SALES 0\nFORECAST GROSS 0\nFORECAST DISCOUNT 0\nFORECAST NET 0\nSETTLED SALES 1\nSETTLED GROSS 10000\nSETTLED DISCOUNT 250\nSETTLED NET 9750\n"), (0, tt))) })
+      (record { answer = 143; exit = (one_sale, (lent_mut (shown 147 "SETTLED SALES 1\nSETTLED GROSS 10000\nSETTLED DISCOUNT 250\nSETTLED NET 9750\nFORECAST SALES 0\nFORECAST GROSS 0\nFORECAST DISCOUNT 0\nFORECAST NET 0\n"), (0, tt))) })
   pub sets_left_out :
-      TellsOutcome (PutSets.Post (one κ)) (one_sale, (lent (room 147), (0, tt)))
-      (record { answer = 143; exit = (one_sale, (lent (shown 147 "FORECAST SALES 0\nFORECAST GROSS 0\nFORECAST DISCOUNT 0\nFORECAST NET 0\nSETTLED SALES 1\nSETTLED GROSS 10000\nSETTLED DISCOUNT 250\nSETTLED NET 9750\n"), (0, tt))) })
-      (record { answer = 74; exit = (one_sale, (lent (shown 147 "SETTLED SALES 1\nSETTLED GROSS 10000\nSETTLED DISCOUNT 250\nSETTLED NET 9750\n"), (0, tt))) })
+      TellsOutcome (PutSets.Post (one κ)) (one_sale, (lent_mut (room 147), (0, tt)))
+      (record { answer = 143; exit = (one_sale, (lent_mut (shown 147 "FORECAST SALES 0\nFORECAST GROSS 0\nFORECAST DISCOUNT 0\nFORECAST NET 0\nSETTLED SALES 1\nSETTLED GROSS 10000\nSETTLED DISCOUNT 250\nSETTLED NET 9750\n"), (0, tt))) })
+      (record { answer = 74; exit = (one_sale, (lent_mut (shown 147 "SETTLED SALES 1\nSETTLED GROSS 10000\nSETTLED DISCOUNT 250\nSETTLED NET 9750\n"), (0, tt))) })
   -- `card_program::put_outcome`: records and batches exchanged; forecast and settled exchanged; both in four lines; a refused file accepted
   pub card : OneOutcome (λ κs s. s.1.1.0.now) PutOutcome.Post
   pub card_exchanged :
-      TellsOutcome (PutOutcome.Post (one κ)) (Sales, (example, (lent (room 176), (0, tt))))
-      (record { answer = 172; exit = (Sales, (example, (lent (shown 176 eleven_lines), (0, tt)))) })
-      (record { answer = 172; exit = (Sales, (example, (lent (shown 176 "ACCEPTED\nRECORDS 1\nBATCHES 5\nFORECAST SALES 0\nFORECAST GROSS 0\nFORECAST DISCOUNT 0\nFORECAST NET 0\nSETTLED SALES 1\nSETTLED GROSS 10000\nSETTLED DISCOUNT 250\nSETTLED NET 9750\n"), (0, tt)))) })
+      TellsOutcome (PutOutcome.Post (one κ)) (Sales, (example, (lent_mut (room 176), (0, tt))))
+      (record { answer = 172; exit = (Sales, (example, (lent_mut (shown 176 eleven_lines), (0, tt)))) })
+      (record { answer = 172; exit = (Sales, (example, (lent_mut (shown 176 "ACCEPTED\nRECORDS 1\nBATCHES 5\nFORECAST SALES 0\nFORECAST GROSS 0\nFORECAST DISCOUNT 0\nFORECAST NET 0\nSETTLED SALES 1\nSETTLED GROSS 10000\nSETTLED DISCOUNT 250\nSETTLED NET 9750\n"), (0, tt)))) })
   pub card_sets_exchanged :
-      TellsOutcome (PutOutcome.Post (one κ)) (Sales, (example, (lent (room 176), (0, tt))))
-      (record { answer = 172; exit = (Sales, (example, (lent (shown 176 eleven_lines), (0, tt)))) })
-      (record { answer = 172; exit = (Sales, (example, (lent (shown 176 "ACCEPTED\nRECORDS 5\nBATCHES 1\nFORECAST SALES 1\nFORECAST GROSS 10000\nFORECAST DISCOUNT 250\nFORECAST NET 9750\nSETTLED SALES 0\nSETTLED GROSS 0\nSETTLED DISCOUNT 0\nSETTLED NET 0\n"), (0, tt)))) })
+      TellsOutcome (PutOutcome.Post (one κ)) (Sales, (example, (lent_mut (room 176), (0, tt))))
+      (record { answer = 172; exit = (Sales, (example, (lent_mut (shown 176 eleven_lines), (0, tt)))) })
+      (record { answer = 172; exit = (Sales, (example, (lent_mut (shown 176 "ACCEPTED\nRECORDS 5\nBATCHES 1\nFORECAST SALES 1\nFORECAST GROSS 10000\nFORECAST DISCOUNT 250\nFORECAST NET 9750\nSETTLED SALES 0\nSETTLED GROSS 0\nSETTLED DISCOUNT 0\nSETTLED NET 0\n"), (0, tt)))) })
   pub card_four_lines :
-      TellsOutcome (PutOutcome.Post (one κ)) (Sales, (example, (lent (room 176), (0, tt))))
-      (record { answer = 172; exit = (Sales, (example, (lent (shown 176 eleven_lines), (0, tt)))) })
-      (record { answer = 71; exit = (Sales, (example, (lent (shown 176 "ACCEPTED\nRECORDS 5\nBATCHES 1\nSALES 1\nGROSS 10000\nDISCOUNT 250\nNET 9750\n"), (0, tt)))) })
+      TellsOutcome (PutOutcome.Post (one κ)) (Sales, (example, (lent_mut (room 176), (0, tt))))
+      (record { answer = 172; exit = (Sales, (example, (lent_mut (shown 176 eleven_lines), (0, tt)))) })
+      (record { answer = 71; exit = (Sales, (example, (lent_mut (shown 176 "ACCEPTED\nRECORDS 5\nBATCHES 1\nSALES 1\nGROSS 10000\nDISCOUNT 250\nNET 9750\n"), (0, tt)))) })
   pub card_accepted :
-      TellsOutcome (PutOutcome.Post (one κ)) (Sales, (late_card, (lent (room 32), (0, tt))))
-      (record { answer = 30; exit = (Sales, (late_card, (lent (shown 32 "REFUSED 9 RECORD 3 COLUMN 194\n"), (0, tt)))) })
-      (record { answer = 9; exit = (Sales, (late_card, (lent (shown 32 "ACCEPTED\n"), (0, tt)))) })
+      TellsOutcome (PutOutcome.Post (one κ)) (Sales, (late_card, (lent_mut (room 32), (0, tt))))
+      (record { answer = 30; exit = (Sales, (late_card, (lent_mut (shown 32 "REFUSED 9 RECORD 3 COLUMN 194\n"), (0, tt)))) })
+      (record { answer = 9; exit = (Sales, (late_card, (lent_mut (shown 32 "ACCEPTED\n"), (0, tt)))) })
   -- of its adjustments: credits and debits exchanged; the lines of its sales
   pub adjusted_exchanged :
-      TellsOutcome (PutOutcome.Post (one κ)) (Adjustments, (example_adjusted, (lent (room 64), (0, tt))))
-      (record { answer = 59; exit = (Adjustments, (example_adjusted, (lent (shown 64 "ACCEPTED\nCREDITS 2\nCREDIT NET 4425\nDEBITS 1\nDEBIT NET 4875\n"), (0, tt)))) })
-      (record { answer = 59; exit = (Adjustments, (example_adjusted, (lent (shown 64 "ACCEPTED\nCREDITS 1\nCREDIT NET 4875\nDEBITS 2\nDEBIT NET 4425\n"), (0, tt)))) })
+      TellsOutcome (PutOutcome.Post (one κ)) (Adjustments, (example_adjusted, (lent_mut (room 64), (0, tt))))
+      (record { answer = 59; exit = (Adjustments, (example_adjusted, (lent_mut (shown 64 "ACCEPTED\nCREDITS 2\nCREDIT NET 4425\nDEBITS 1\nDEBIT NET 4875\n"), (0, tt)))) })
+      (record { answer = 59; exit = (Adjustments, (example_adjusted, (lent_mut (shown 64 "ACCEPTED\nCREDITS 1\nCREDIT NET 4875\nDEBITS 2\nDEBIT NET 4425\n"), (0, tt)))) })
   pub adjusted_sales :
-      TellsOutcome (PutOutcome.Post (one κ)) (Adjustments, (example_adjusted, (lent (room 64), (0, tt))))
-      (record { answer = 59; exit = (Adjustments, (example_adjusted, (lent (shown 64 "ACCEPTED\nCREDITS 2\nCREDIT NET 4425\nDEBITS 1\nDEBIT NET 4875\n"), (0, tt)))) })
-      (record { answer = 64; exit = (Adjustments, (example_adjusted, (lent (take 64 (ascii eleven_lines)), (0, tt)))) })
+      TellsOutcome (PutOutcome.Post (one κ)) (Adjustments, (example_adjusted, (lent_mut (room 64), (0, tt))))
+      (record { answer = 59; exit = (Adjustments, (example_adjusted, (lent_mut (shown 64 "ACCEPTED\nCREDITS 2\nCREDIT NET 4425\nDEBITS 1\nDEBIT NET 4875\n"), (0, tt)))) })
+      (record { answer = 64; exit = (Adjustments, (example_adjusted, (lent_mut (take 64 (ascii eleven_lines)), (0, tt)))) })
   -- `payroll_program::put_outcome`: payments and amount exchanged; record and column exchanged
   pub payroll : OneOutcome (λ κs s. s.1.0.now) PutPayroll.Post
   pub payroll_exchanged :
-      TellsOutcome (PutPayroll.Post (one κ)) (wages, (lent (room 56), (0, tt)))
-      (record { answer = 55; exit = (wages, (lent (shown 56 "ACCEPTED\nRECORDS 9\nBATCHES 2\nPAYMENTS 3\nAMOUNT 1301625\n"), (0, tt))) })
-      (record { answer = 55; exit = (wages, (lent (shown 56 "ACCEPTED\nRECORDS 9\nBATCHES 2\nPAYMENTS 1301625\nAMOUNT 3\n"), (0, tt))) })
+      TellsOutcome (PutPayroll.Post (one κ)) (wages, (lent_mut (room 56), (0, tt)))
+      (record { answer = 55; exit = (wages, (lent_mut (shown 56 "ACCEPTED\nRECORDS 9\nBATCHES 2\nPAYMENTS 3\nAMOUNT 1301625\n"), (0, tt))) })
+      (record { answer = 55; exit = (wages, (lent_mut (shown 56 "ACCEPTED\nRECORDS 9\nBATCHES 2\nPAYMENTS 1301625\nAMOUNT 3\n"), (0, tt))) })
   pub payroll_refused_lem :
-      TellsOutcome (PutPayroll.Post (one κ)) (late_payroll, (lent (room 32), (0, tt)))
-      (record { answer = 30; exit = (late_payroll, (lent (shown 32 "REFUSED 9 RECORD 3 COLUMN 194\n"), (0, tt))) })
-      (record { answer = 30; exit = (late_payroll, (lent (shown 32 "REFUSED 9 RECORD 194 COLUMN 3\n"), (0, tt))) })
+      TellsOutcome (PutPayroll.Post (one κ)) (late_payroll, (lent_mut (room 32), (0, tt)))
+      (record { answer = 30; exit = (late_payroll, (lent_mut (shown 32 "REFUSED 9 RECORD 3 COLUMN 194\n"), (0, tt))) })
+      (record { answer = 30; exit = (late_payroll, (lent_mut (shown 32 "REFUSED 9 RECORD 194 COLUMN 3\n"), (0, tt))) })
   -- `sheet_program::put_outcome`: a movement without its zeros; the day first; of version 2 the settled first, no line of the version or of the split, both sets added as version 1 has them
   pub sheet : OneOutcome (λ κs s. s.1.0.now) PutSheet.Post
   pub sheet_movement :
-      TellsOutcome (PutSheet.Post (one κ)) (day_sheet, (lent (room 96), (0, tt)))
-      (record { answer = 92; exit = (day_sheet, (lent (shown 96 "EDITION 2\nDATE 20240229\nMOVEMENT 000001\nBATCHES 1\nSALES 1\nGROSS 10000\nDISCOUNT 250\nNET 9750\n"), (0, tt))) })
-      (record { answer = 87; exit = (day_sheet, (lent (shown 96 "EDITION 2\nDATE 20240229\nMOVEMENT 1\nBATCHES 1\nSALES 1\nGROSS 10000\nDISCOUNT 250\nNET 9750\n"), (0, tt))) })
+      TellsOutcome (PutSheet.Post (one κ)) (day_sheet, (lent_mut (room 96), (0, tt)))
+      (record { answer = 92; exit = (day_sheet, (lent_mut (shown 96 "EDITION 2\nDATE 20240229\nMOVEMENT 000001\nBATCHES 1\nSALES 1\nGROSS 10000\nDISCOUNT 250\nNET 9750\n"), (0, tt))) })
+      (record { answer = 87; exit = (day_sheet, (lent_mut (shown 96 "EDITION 2\nDATE 20240229\nMOVEMENT 1\nBATCHES 1\nSALES 1\nGROSS 10000\nDISCOUNT 250\nNET 9750\n"), (0, tt))) })
   pub sheet_day_first :
-      TellsOutcome (PutSheet.Post (one κ)) (day_sheet, (lent (room 96), (0, tt)))
-      (record { answer = 92; exit = (day_sheet, (lent (shown 96 "EDITION 2\nDATE 20240229\nMOVEMENT 000001\nBATCHES 1\nSALES 1\nGROSS 10000\nDISCOUNT 250\nNET 9750\n"), (0, tt))) })
-      (record { answer = 92; exit = (day_sheet, (lent (shown 96 "EDITION 2\nDATE 29022024\nMOVEMENT 000001\nBATCHES 1\nSALES 1\nGROSS 10000\nDISCOUNT 250\nNET 9750\n"), (0, tt))) })
+      TellsOutcome (PutSheet.Post (one κ)) (day_sheet, (lent_mut (room 96), (0, tt)))
+      (record { answer = 92; exit = (day_sheet, (lent_mut (shown 96 "EDITION 2\nDATE 20240229\nMOVEMENT 000001\nBATCHES 1\nSALES 1\nGROSS 10000\nDISCOUNT 250\nNET 9750\n"), (0, tt))) })
+      (record { answer = 92; exit = (day_sheet, (lent_mut (shown 96 "EDITION 2\nDATE 29022024\nMOVEMENT 000001\nBATCHES 1\nSALES 1\nGROSS 10000\nDISCOUNT 250\nNET 9750\n"), (0, tt))) })
   pub sheet_settled_first :
-      TellsOutcome (PutSheet.Post (one κ)) (split_sheet, (lent (room 225), (0, tt)))
-      (record { answer = 221; exit = (split_sheet, (lent (shown 225 "VERSION 2\nEDITION 2\nDATE 20240229\nMOVEMENT 000001\nBATCHES 1\nSPLIT 1\nFORECAST SALES 2\nFORECAST GROSS 20000\nFORECAST DISCOUNT 500\nFORECAST NET 19500\nSETTLED SALES 1\nSETTLED GROSS 10000\nSETTLED DISCOUNT 250\nSETTLED NET 9750\n"), (0, tt))) })
-      (record { answer = 221; exit = (split_sheet, (lent (shown 225 "VERSION 2\nEDITION 2\nDATE 20240229\nMOVEMENT 000001\nBATCHES 1\nSPLIT 1\nSETTLED SALES 1\nSETTLED GROSS 10000\nSETTLED DISCOUNT 250\nSETTLED NET 9750\nFORECAST SALES 2\nFORECAST GROSS 20000\nFORECAST DISCOUNT 500\nFORECAST NET 19500\n"), (0, tt))) })
+      TellsOutcome (PutSheet.Post (one κ)) (split_sheet, (lent_mut (room 225), (0, tt)))
+      (record { answer = 221; exit = (split_sheet, (lent_mut (shown 225 "VERSION 2\nEDITION 2\nDATE 20240229\nMOVEMENT 000001\nBATCHES 1\nSPLIT 1\nFORECAST SALES 2\nFORECAST GROSS 20000\nFORECAST DISCOUNT 500\nFORECAST NET 19500\nSETTLED SALES 1\nSETTLED GROSS 10000\nSETTLED DISCOUNT 250\nSETTLED NET 9750\n"), (0, tt))) })
+      (record { answer = 221; exit = (split_sheet, (lent_mut (shown 225 "VERSION 2\nEDITION 2\nDATE 20240229\nMOVEMENT 000001\nBATCHES 1\nSPLIT 1\nSETTLED SALES 1\nSETTLED GROSS 10000\nSETTLED DISCOUNT 250\nSETTLED NET 9750\nFORECAST SALES 2\nFORECAST GROSS 20000\nFORECAST DISCOUNT 500\nFORECAST NET 19500\n"), (0, tt))) })
   pub sheet_no_version :
-      TellsOutcome (PutSheet.Post (one κ)) (split_sheet, (lent (room 225), (0, tt)))
-      (record { answer = 221; exit = (split_sheet, (lent (shown 225 "VERSION 2\nEDITION 2\nDATE 20240229\nMOVEMENT 000001\nBATCHES 1\nSPLIT 1\nFORECAST SALES 2\nFORECAST GROSS 20000\nFORECAST DISCOUNT 500\nFORECAST NET 19500\nSETTLED SALES 1\nSETTLED GROSS 10000\nSETTLED DISCOUNT 250\nSETTLED NET 9750\n"), (0, tt))) })
-      (record { answer = 211; exit = (split_sheet, (lent (shown 225 "EDITION 2\nDATE 20240229\nMOVEMENT 000001\nBATCHES 1\nSPLIT 1\nFORECAST SALES 2\nFORECAST GROSS 20000\nFORECAST DISCOUNT 500\nFORECAST NET 19500\nSETTLED SALES 1\nSETTLED GROSS 10000\nSETTLED DISCOUNT 250\nSETTLED NET 9750\n"), (0, tt))) })
+      TellsOutcome (PutSheet.Post (one κ)) (split_sheet, (lent_mut (room 225), (0, tt)))
+      (record { answer = 221; exit = (split_sheet, (lent_mut (shown 225 "VERSION 2\nEDITION 2\nDATE 20240229\nMOVEMENT 000001\nBATCHES 1\nSPLIT 1\nFORECAST SALES 2\nFORECAST GROSS 20000\nFORECAST DISCOUNT 500\nFORECAST NET 19500\nSETTLED SALES 1\nSETTLED GROSS 10000\nSETTLED DISCOUNT 250\nSETTLED NET 9750\n"), (0, tt))) })
+      (record { answer = 211; exit = (split_sheet, (lent_mut (shown 225 "EDITION 2\nDATE 20240229\nMOVEMENT 000001\nBATCHES 1\nSPLIT 1\nFORECAST SALES 2\nFORECAST GROSS 20000\nFORECAST DISCOUNT 500\nFORECAST NET 19500\nSETTLED SALES 1\nSETTLED GROSS 10000\nSETTLED DISCOUNT 250\nSETTLED NET 9750\n"), (0, tt))) })
   pub sheet_no_split :
-      TellsOutcome (PutSheet.Post (one κ)) (split_sheet, (lent (room 225), (0, tt)))
-      (record { answer = 221; exit = (split_sheet, (lent (shown 225 "VERSION 2\nEDITION 2\nDATE 20240229\nMOVEMENT 000001\nBATCHES 1\nSPLIT 1\nFORECAST SALES 2\nFORECAST GROSS 20000\nFORECAST DISCOUNT 500\nFORECAST NET 19500\nSETTLED SALES 1\nSETTLED GROSS 10000\nSETTLED DISCOUNT 250\nSETTLED NET 9750\n"), (0, tt))) })
-      (record { answer = 213; exit = (split_sheet, (lent (shown 225 "VERSION 2\nEDITION 2\nDATE 20240229\nMOVEMENT 000001\nBATCHES 1\nFORECAST SALES 2\nFORECAST GROSS 20000\nFORECAST DISCOUNT 500\nFORECAST NET 19500\nSETTLED SALES 1\nSETTLED GROSS 10000\nSETTLED DISCOUNT 250\nSETTLED NET 9750\n"), (0, tt))) })
+      TellsOutcome (PutSheet.Post (one κ)) (split_sheet, (lent_mut (room 225), (0, tt)))
+      (record { answer = 221; exit = (split_sheet, (lent_mut (shown 225 "VERSION 2\nEDITION 2\nDATE 20240229\nMOVEMENT 000001\nBATCHES 1\nSPLIT 1\nFORECAST SALES 2\nFORECAST GROSS 20000\nFORECAST DISCOUNT 500\nFORECAST NET 19500\nSETTLED SALES 1\nSETTLED GROSS 10000\nSETTLED DISCOUNT 250\nSETTLED NET 9750\n"), (0, tt))) })
+      (record { answer = 213; exit = (split_sheet, (lent_mut (shown 225 "VERSION 2\nEDITION 2\nDATE 20240229\nMOVEMENT 000001\nBATCHES 1\nFORECAST SALES 2\nFORECAST GROSS 20000\nFORECAST DISCOUNT 500\nFORECAST NET 19500\nSETTLED SALES 1\nSETTLED GROSS 10000\nSETTLED DISCOUNT 250\nSETTLED NET 9750\n"), (0, tt))) })
   pub sheet_added :
-      TellsOutcome (PutSheet.Post (one κ)) (split_sheet, (lent (room 225), (0, tt)))
-      (record { answer = 221; exit = (split_sheet, (lent (shown 225 "VERSION 2\nEDITION 2\nDATE 20240229\nMOVEMENT 000001\nBATCHES 1\nSPLIT 1\nFORECAST SALES 2\nFORECAST GROSS 20000\nFORECAST DISCOUNT 500\nFORECAST NET 19500\nSETTLED SALES 1\nSETTLED GROSS 10000\nSETTLED DISCOUNT 250\nSETTLED NET 9750\n"), (0, tt))) })
-      (record { answer = 93; exit = (split_sheet, (lent (shown 225 "EDITION 2\nDATE 20240229\nMOVEMENT 000001\nBATCHES 1\nSALES 3\nGROSS 30000\nDISCOUNT 750\nNET 29250\n"), (0, tt))) })
+      TellsOutcome (PutSheet.Post (one κ)) (split_sheet, (lent_mut (room 225), (0, tt)))
+      (record { answer = 221; exit = (split_sheet, (lent_mut (shown 225 "VERSION 2\nEDITION 2\nDATE 20240229\nMOVEMENT 000001\nBATCHES 1\nSPLIT 1\nFORECAST SALES 2\nFORECAST GROSS 20000\nFORECAST DISCOUNT 500\nFORECAST NET 19500\nSETTLED SALES 1\nSETTLED GROSS 10000\nSETTLED DISCOUNT 250\nSETTLED NET 9750\n"), (0, tt))) })
+      (record { answer = 93; exit = (split_sheet, (lent_mut (shown 225 "EDITION 2\nDATE 20240229\nMOVEMENT 000001\nBATCHES 1\nSALES 3\nGROSS 30000\nDISCOUNT 750\nNET 29250\n"), (0, tt))) })
   -- `descriptor` of each program: a verdict to standard error; a mistake to standard output
   pub card_to : OneAnswer Descriptor.Post
   pub card_to_error : Tells (Descriptor.Post tt) (example, tt) (pos 1) (pos 2)

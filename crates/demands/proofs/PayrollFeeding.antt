@@ -58,7 +58,7 @@ going_on st = record { state = st; progress = GoingOn }
 fed_state : (st : Running) (rs : List (List ℕ)) → fed_all (going_on st) rs ≡ going_on (took_records st rs)
 unfolding fed_at took_records
 fed_state st [] = refl
-fed_state st (r ∷ rs) = fed_state _ rs
+fed_state st (r ∷ rs) = fed_state (fed_of (going_on st) r).state rs
 
 -- pieces behind others
 lines_row : (st : Running) (ps qs : List (List ℕ)) → lines_of st (ps ++ qs) ≡ lines_of (lines_of st ps) qs

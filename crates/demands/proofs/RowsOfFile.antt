@@ -135,7 +135,7 @@ module _ (edition : ℕ) where
   seen_batches : (number : ℕ) (bs : List Batch) → BatchesKept edition number bs → Seen (batches_records bs) (batches_transactions bs)
   unfolding BatchesKept batches_records batches_transactions
   seen_batches number [] k = seen_none
-  seen_batches number (b ∷ bs) (k, ks) = seen_row (seen_batch number b k) (seen_batches _ bs ks)
+  seen_batches number (b ∷ bs) (k, ks) = seen_row (seen_batch number b k) (seen_batches (number + length (batch_records b)) bs ks)
 
   seen_file : (f : File) → FileKept edition f → Seen (records_of f) (transactions_of f)
   unfolding same_bytes picked

@@ -76,7 +76,7 @@ module _ (AlikeRecords AlikeFiles : List ℕ → List ℕ → Type 0)
   feeding_alike : (st : Running) {rs ss : List (List ℕ)} → AlikeLists AlikeRecords rs ss → fed_all st rs ≡ fed_all st ss
   unfolding fed_all
   feeding_alike st none = refl
-  feeding_alike st (one_more {rs = rs} {ss = ss} w ws) = ap (λ next. fed_all next rs) (fed_alike st w) ∙ feeding_alike _ ws
+  feeding_alike st (one_more {s = s} {rs = rs} {ss = ss} w ws) = ap (λ next. fed_all next rs) (fed_alike st w) ∙ feeding_alike (fed_of st s) ws
 
   -- the first k of them
   first_alike : (k : ℕ) {rs ss : List (List ℕ)} → AlikeLists AlikeRecords rs ss → AlikeLists AlikeRecords (take k rs) (take k ss)
@@ -88,7 +88,7 @@ module _ (AlikeRecords AlikeFiles : List ℕ → List ℕ → Type 0)
   calls_alike : (st : Running) {cs ds : List Call} → AlikeCalls AlikeRecords cs ds → called st cs ≡ called st ds
   unfolding called
   calls_alike st no_call = refl
-  calls_alike st (feeds {cs = cs} w ws) = ap (λ next. called next cs) (fed_alike st w) ∙ calls_alike _ ws
+  calls_alike st (feeds {s = s} {cs = cs} w ws) = ap (λ next. called next cs) (fed_alike st w) ∙ calls_alike (fed_of st s) ws
   calls_alike st (closes ws) = calls_alike (closed_of st) ws
 
   -- equally much of two files with one masked form

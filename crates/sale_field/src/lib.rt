@@ -1,5 +1,6 @@
 // One field of a lone CV record, handed back as a part of it; never the card.
 #![tactic(auto)]
+
 ghost use Rattle.std.specs.Prelude.{◌≡◌, ◌≤◌};
 ghost use Rattle.text.specs.Part.{PartOf, AtPositions};
 ghost use Rattle.sale_field.specs.Field.{numbered, offered, field_of, place_of_field, refusal_of};
