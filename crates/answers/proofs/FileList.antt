@@ -22,6 +22,7 @@ use Rattle.card_program.specs.declared.outcome.Outcome.TheVariants.{Answer, Mist
 use Rattle.card_program.specs.Checked.{Checked}
 use Rattle.card_program.specs.Listing.{said_of}
 use Rattle.payroll_program.specs.declared.outcome.PayrollOutcome.TheVariants.{Mistake as mistake_payroll}
+use Rattle.answers.specs.Held.{Runtime}
 use Rattle.answers.specs.FileList.{FileList}
 use Rattle.answers.proofs.Told.{equal, told}
 use Rattle.answers.proofs.Observed.{list_read}
@@ -55,9 +56,9 @@ none_accepted {t} w = by w.outcomes w.as_many w.each w.counted
     by (o ∷ []) l e c = ap (λ (u : Tally). u.accepted) c ∙ counts o e.0
     by (o ∷ p ∷ os) l e c = absurd (omega arith)
 
-pub file_list : (κ : Lft) → FileList κ
+pub file_list : (κ : Lft) (rt : Runtime) → FileList κ rt
 unfolding allowed holds_only value_from over over_at digits_within word_of line_of file_line one_file_more tally_line Each
-file_list κ =
+file_list κ rt =
     record {
       shown_text = λ κs a r r' s s' p q. (equal p.ends q.ends, equal p.leaves q.leaves);
       shown_line_end = (record { ends = refl; leaves = refl }, λ p. told (λ s. get_or s 1 0) refl p.leaves);

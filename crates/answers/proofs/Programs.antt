@@ -4,7 +4,6 @@ use mathlib.Core.Path.{◌≡◌, refl, sym, ◌∙◌, ap}
 use mathlib.Core.List.{List, []}
 use mathlib.Core.Bool.{true}
 use native.Mathlib.Omega.{arith}
-use lib.IntN.{ℤ}
 use borrow.Author.Tests.{lt-ltb}
 use base.Fml.{Lft}
 use Rattle.refusal.specs.declared.Cause.{Cause}
@@ -71,6 +70,7 @@ use Rattle.card_program.specs.Outcome.{outcome_at}
 use Rattle.payroll_program.specs.Outcome.{outcome_at as payroll_outcome_at}
 use Rattle.answers.specs.DaySheet.{sheet_of, both_sets}
 use Rattle.answers.specs.Programs.{Programs, made_up}
+use Rattle.answers.specs.Held.{Runtime, Opened}
 use Rattle.answers.specs.Samples.{card_file, payroll_file}
 use Rattle.answers.proofs.Told.{equal, told, bit}
 use Rattle.answers.proofs.Observed.{argument_read, answer_read, card_outcome_read, outcome_read, sheet_kind, split_read}
@@ -104,9 +104,9 @@ plain : (bytes : List ℕ) (a : PayrollNumbers) (e : accepted_payroll a ≡ payr
     Numbers ((payroll.kept_means_kept bytes).0 (record { numbers = a; answer = sym e })).file a
 plain bytes a e = payroll.plain_numbers_lem bytes a (sym e) ((payroll.kept_means_kept bytes).0 (record { numbers = a; answer = sym e }))
 
-pub programs : (κ : Lft) (fd : ℤ) → Programs κ fd
+pub programs : (κ : Lft) (rt : Runtime) (file : Opened) → Programs κ rt file
 unfolding first_broken allowed holds_only first_stray value_from same_bytes has_byte one_byte_of days_in is_day is_time when_rules well_formed in_front cut joined ends_in_cr without_last in_set content_rules table_rules record_rules joined_rules kind_named right_reading judged_as read_found answer_at joined_at rules_of behind behind_or_refused took_at closed_at unended_at lines_of end_of number_rules stray_at segment_named payroll_kind_named read_as payroll_read_found found_rules due_rules payroll_run_rules behind_detail_as payroll_behind payroll_behind_or_refused payroll_took_at payroll_lines_of ended_of end_at in_base value_in in_places from_places digits_right sheet_row bytes_of within_limits set_allowed sets_allowed heading_allowed none_of split_allowed sheet_allowed sheet_as read_of converted late_at digits_within word_of line_of refused_line led_line totals_text sets_text accepted_text outcome_at payroll_outcome_at with_held so_far payroll_answer_at
-programs κ fd =
+programs κ rt file =
     record {
       eleven_lines_lem = refl;
       one_line = refl;

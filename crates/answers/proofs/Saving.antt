@@ -4,7 +4,6 @@ use mathlib.Core.Path.{◌≡◌, refl, ◌∙◌}
 use mathlib.Core.List.{List, [], ◌∷◌}
 use mathlib.Core.Logic.{◌⊎◌, inl, inr, ⊎_elim}
 use native.Mathlib.Omega.{arith}
-use lib.IntN.{ℤ}
 use base.Fml.{Lft}
 use Rattle.files.specs.Reading.{got_of}
 use Rattle.files.proofs.Meanings.{never_the_end}
@@ -14,6 +13,7 @@ use Rattle.out_file.specs.declared.step.Went.TheVariants.{Well, Wrong}
 use Rattle.out_file.specs.Saving.{run_from}
 use Rattle.out_file.proofs.Everywhere.{place_of}
 use Rattle.out_file.proofs.Decisions.{decided}
+use Rattle.answers.specs.Held.{Runtime, Opened}
 use Rattle.answers.specs.Saving.{Saving}
 use Rattle.answers.proofs.Told.{equal, told, bit}
 use Rattle.answers.proofs.Observed.{got_read, saved_read}
@@ -25,9 +25,9 @@ not_kept [] e = told place_of refl e
 not_kept (a ∷ []) e = told place_of refl e
 not_kept (a ∷ b ∷ answers) e = told place_of refl (e ∙ decided.over Gone answers refl)
 
-pub saving : (κ : Lft) (fd : ℤ) → Saving κ fd
+pub saving : (κ : Lft) (rt : Runtime) (file : Opened) → Saving κ rt file
 unfolding got_of run_from
-saving κ fd =
+saving κ rt file =
     record {
       decided = decided;
       never_the_end = never_the_end;

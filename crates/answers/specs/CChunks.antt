@@ -1,6 +1,5 @@
 -- What the contracts of a file that C gives in chunks are held to. Behind a function's name: the wrong programs that are ruled out.
 use Rattle.std.specs.Prelude.{ℕ, ◌≡◌, List, [], ◌++◌, take, drop, replicate}
-use contract.Lifetimes.{Lfts}
 use Rattle.std.specs.Borrow.{Bor, MutBor}
 use Rattle.text.specs.Literal.{ascii}
 use Rattle.refusal.specs.declared.Cause.TheVariants.{EditionRetired, NoLineEnd, WrongWidth, EndsTooEarly, BytesAfterTheEnd}
@@ -27,7 +26,7 @@ use Rattle.c_chunks.proofs.payroll.lossivurn_payroll_stream_open.Reads as Payrol
 use Rattle.c_chunks.proofs.payroll.lossivurn_payroll_stream_take.Reads as PayrollTake
 use Rattle.c_chunks.proofs.payroll.lossivurn_payroll_stream_end.Reads as PayrollEnd
 use Rattle.c_chunks.proofs.payroll.lossivurn_payroll_stream_answer.Reads as PayrollAnswer
-use Rattle.answers.specs.Held.{OneOutcome, TellsOutcome, lent, lent_mut, three}
+use Rattle.answers.specs.Held.{OneOutcome, TellsOutcome, lent, lent_mut, three, four}
 
 -- one outcome of all three that a call leaves with the caller
 abbrev OneKept : {L : Type 0} {A R S : L → Type 0} → ((κs : L) → S κs → Kept) → ((κs : L) → A κs → R κs → S κs → Type 0) → Type 0
@@ -36,10 +35,6 @@ OneKept {L} {A} {R} {S} left meets =
 
 abbrev left : MutBor (List ℕ) → MutBor ℕ → MutBor (List ℕ) → Kept
 left numbers waiting bytes = record { numbers = numbers.now; waiting = waiting.now; bytes = bytes.now }
-
--- the lifetimes of four that are lent
-abbrev four : Lft → Lfts 4
-four κ = (κ, (κ, (κ, (κ, tt))))
 
 -- what is kept, lent, before other arguments
 abbrev all : {T : Type 0} → Kept → T → MutBor (List ℕ) × (MutBor ℕ × (MutBor (List ℕ) × T))

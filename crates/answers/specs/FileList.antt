@@ -16,7 +16,7 @@ use Rattle.file_list.proofs.tally.Tally.with.Reads as WithFile
 use Rattle.file_list.proofs.tally.put_tally.Reads as PutTally
 use Rattle.card_program.proofs.list.list_under.Reads as ListCards
 use Rattle.payroll_program.proofs.list.list.Reads as ListPayrolls
-use Rattle.answers.specs.Held.{OneAnswer, OneOutcome, Tells, TellsOutcome, lent, lent_mut, one, two, three}
+use Rattle.answers.specs.Held.{OneAnswer, OneOutcome, Tells, TellsOutcome, Runtime, lent, lent_mut, one, two, three}
 use Rattle.answers.specs.Samples.{room}
 use Rattle.answers.specs.Texts.{shown}
 
@@ -24,7 +24,7 @@ use Rattle.answers.specs.Texts.{shown}
 abbrev pub tally : ℕ → ℕ → ℕ → ℕ → Tally
 tally files accepted refused unreadable = record { files = files; accepted = accepted; refused = refused; unreadable = unreadable }
 
-pub record FileList (κ : Lft) : Type 0 where
+pub record FileList (κ : Lft) (rt : Runtime) : Type 0 where
   -- `put::shown`: a line end left in a name; a blank shown as a control byte; a letter with an accent shown as one
   pub shown_text : OneOutcome (λ κs s. s.1.1.0.now) PutShown.Post
   pub shown_line_end :
@@ -88,12 +88,12 @@ pub record FileList (κ : Lft) : Type 0 where
       (record { answer = 42; exit = (tally 4 1 2 1, (lent_mut (shown 44 "FILES 4 ACCEPTED 1 REFUSED 2 UNREADABLE 1\n"), (0, tt))) })
       (record { answer = 34; exit = (tally 4 1 2 1, (lent_mut (shown 44 "ACCEPTED 1 REFUSED 2 UNREADABLE 1\n"), (0, tt))) })
   -- `card_program::list_under`, of one name: a file passed over; the list ended by one that cannot be opened; one accepted under edition 3; a word taken for an edition; a number told as none
-  pub list_passed_over : Tells (ListCards.Post (one κ)) (lent (ascii "2"), (3, tt)) (Files (tally 1 0 0 1)) (Files (tally 0 0 0 0))
-  pub list_ended : Tells (ListCards.Post (one κ)) (lent (ascii "2"), (3, tt)) (Files (tally 1 0 0 1)) (Mistake (System Open 2))
-  pub list_edition : Tells (ListCards.Post (one κ)) (lent (ascii "3"), (3, tt)) (Files (tally 1 0 0 1)) (Files (tally 1 1 0 0))
-  pub list_word : Tells (ListCards.Post (one κ)) (lent (ascii "two"), (3, tt)) (Mistake EditionNoNumber) (Files (tally 1 0 0 1))
-  pub list_number : Tells (ListCards.Post (one κ)) (lent (ascii "2"), (3, tt)) (Files (tally 1 0 0 1)) (Mistake EditionNoNumber)
+  pub list_passed_over : Tells (ListCards.Post (two κ)) (rt, (lent (ascii "2"), (3, tt))) (Files (tally 1 0 0 1)) (Files (tally 0 0 0 0))
+  pub list_ended : Tells (ListCards.Post (two κ)) (rt, (lent (ascii "2"), (3, tt))) (Files (tally 1 0 0 1)) (Mistake (System Open 2))
+  pub list_edition : Tells (ListCards.Post (two κ)) (rt, (lent (ascii "3"), (3, tt))) (Files (tally 1 0 0 1)) (Files (tally 1 1 0 0))
+  pub list_word : Tells (ListCards.Post (two κ)) (rt, (lent (ascii "two"), (3, tt))) (Mistake EditionNoNumber) (Files (tally 1 0 0 1))
+  pub list_number : Tells (ListCards.Post (two κ)) (rt, (lent (ascii "2"), (3, tt))) (Files (tally 1 0 0 1)) (Mistake EditionNoNumber)
   -- `payroll_program::list`, of one name: a file passed over; two counted; the list ended by one that cannot be read
-  pub list_payroll_over : Tells (ListPayrolls.Post tt) (2, tt) (Files (tally 1 0 0 1)) (Files (tally 0 0 0 0))
-  pub list_payroll_two : Tells (ListPayrolls.Post tt) (2, tt) (Files (tally 1 0 0 1)) (Files (tally 2 0 0 2))
-  pub list_payroll_ended : Tells (ListPayrolls.Post tt) (2, tt) (Files (tally 1 0 0 1)) (Mistake (System Read 21))
+  pub list_payroll_over : Tells (ListPayrolls.Post (one κ)) (rt, (2, tt)) (Files (tally 1 0 0 1)) (Files (tally 0 0 0 0))
+  pub list_payroll_two : Tells (ListPayrolls.Post (one κ)) (rt, (2, tt)) (Files (tally 1 0 0 1)) (Files (tally 2 0 0 2))
+  pub list_payroll_ended : Tells (ListPayrolls.Post (one κ)) (rt, (2, tt)) (Files (tally 1 0 0 1)) (Mistake (System Read 21))

@@ -4,6 +4,8 @@ use Rattle.std.specs.Prelude.{ℕ, ◌≡◌, List}
 use contract.Lifetimes.{Lfts}
 use base.Fml.{Lft}
 use Rattle.std.specs.Borrow.{Bor, MutBor}
+use Rattle.std.specs.declared.rt.LibcRuntime.{LibcRuntime}
+use Rattle.std.specs.declared.fs.File.{File}
 
 -- "For any two answers that satisfy the statement, equality is proved"
 abbrev pub OneAnswer : {L : Type 0} {A R S : L → Type 0} → ((κs : L) → A κs → R κs → S κs → Type 0) → Type 0
@@ -51,7 +53,14 @@ lent = part 0
 abbrev pub lent_mut : List ℕ → MutBor (List ℕ)
 lent_mut s = record { ref_ptr = (0, 0); ghost_name = 0; now = s }
 
--- the lifetimes of one lent slice, of two and of three
+-- what a program asks the system by, lent; and an opened file, lent to be read
+abbrev pub Runtime : Type 0
+Runtime = Bor LibcRuntime
+
+abbrev pub Opened : Type 0
+Opened = MutBor File
+
+-- the lifetimes of one that is lent, of two, of three and of four
 abbrev pub one : Lft → Lfts 1
 one κ = (κ, tt)
 
@@ -60,3 +69,6 @@ two κ = (κ, (κ, tt))
 
 abbrev pub three : Lft → Lfts 3
 three κ = (κ, (κ, (κ, tt)))
+
+abbrev pub four : Lft → Lfts 4
+four κ = (κ, (κ, (κ, (κ, tt))))

@@ -1,6 +1,6 @@
 -- "What each answer must be held to": every contract of the libraries, library by library.
 use base.Fml.{Lft}
-use Rattle.std.specs.Prelude.{ℤ}
+use Rattle.answers.specs.Held.{Runtime, Opened}
 use Rattle.answers.specs.Refusal.{Refusal}
 use Rattle.answers.specs.Text.{Text}
 use Rattle.answers.specs.Calendar.{Calendar}
@@ -56,11 +56,11 @@ pub record HeldToAccount : Type 0 where
   pub cases : (κ : Lft) → Cases κ
   pub definitions : Definitions
   pub variants : (d : Demands) → Variants d
-  pub programs : (κ : Lft) (fd : ℤ) → Programs κ fd
-  pub saving : (κ : Lft) (fd : ℤ) → Saving κ fd
+  pub programs : (κ : Lft) (rt : Runtime) (file : Opened) → Programs κ rt file
+  pub saving : (κ : Lft) (rt : Runtime) (file : Opened) → Saving κ rt file
   pub texts : (κ : Lft) → Texts κ
   pub adjustment_rows : (κ : Lft) → AdjustmentRows κ
-  pub file_list : (κ : Lft) → FileList κ
+  pub file_list : (κ : Lft) (rt : Runtime) → FileList κ rt
   pub state_numbers_lem : (κ : Lft) → StateNumbers κ
   pub c_records : (κ : Lft) → CRecords κ
   pub c_chunks : (κ : Lft) → CChunks κ
