@@ -1,0 +1,60 @@
+// Day sheets: read, written and converted.
+ghost use Rattle.std.specs.Prelude.{◌≡◌, ◌∷◌};
+ghost use Rattle.day_sheet.specs.declared.layout.Version.TheVariants.{One, Two};
+ghost use Rattle.day_sheet.specs.Sheet.{sheet_of};
+ghost use Rattle.day_sheet.specs.Reading.{read_of};
+ghost use Rattle.day_sheet.specs.Writing.{Writes};
+ghost use Rattle.day_sheet.specs.Conversion.{Converts};
+ghost use Rattle.answer_rows.specs.Sheet.{sheet_numbers, written_numbers};
+ghost use Rattle.c_files.specs.Told.{Told};
+
+use answer_rows::sheet::{SHEET_NUMBERS, WRITTEN_NUMBERS};
+
+// How many numbers a sheet of each version has behind its version.
+const NUMBERS_1: usize = 8;
+
+const NUMBERS_2: usize = 13;
+
+// The row of a day sheet of either version.
+#[unsafe(no_mangle)]
+pub extern "C" fn lossivurn_sheet_read(bytes: &[u8], row: &mut [u64; SHEET_NUMBERS])
+    ensures { row.new ≡ sheet_numbers (read_of bytes.now) }
+{
+    c_files::sheet::lossivurn_sheet_read(bytes, row)
+}
+
+// Writes a new day sheet of version 1, whose numbers these are in the layout's order, behind the version.
+#[unsafe(no_mangle)]
+pub extern "C" fn lossivurn_sheet_write_1(
+    numbers: &[u64; NUMBERS_1],
+    out: &mut [u8],
+    row: &mut [u64; WRITTEN_NUMBERS],
+)
+    ensures { Told written_numbers (Writes (sheet_of One (1 ∷ numbers.now)) out.old) row.new out.new }
+{
+    c_files::sheet::lossivurn_sheet_write_1(numbers, out, row)
+}
+
+// Writes a new day sheet of version 2.
+#[unsafe(no_mangle)]
+pub extern "C" fn lossivurn_sheet_write_2(
+    numbers: &[u64; NUMBERS_2],
+    out: &mut [u8],
+    row: &mut [u64; WRITTEN_NUMBERS],
+)
+    ensures { Told written_numbers (Writes (sheet_of Two (2 ∷ numbers.now)) out.old) row.new out.new }
+{
+    c_files::sheet::lossivurn_sheet_write_2(numbers, out, row)
+}
+
+// Writes a sheet in the other version into the first bytes of the output.
+#[unsafe(no_mangle)]
+pub extern "C" fn lossivurn_sheet_convert(
+    bytes: &[u8],
+    out: &mut [u8],
+    row: &mut [u64; WRITTEN_NUMBERS],
+)
+    ensures { Told written_numbers (Converts bytes.now out.old) row.new out.new }
+{
+    c_files::sheet::lossivurn_sheet_convert(bytes, out, row)
+}
