@@ -71,18 +71,18 @@ fn print_cases(cases: &[u8]) {
 }
 
 // Prints the lines of a file of cases.
-fn print_file(path: &[u8]) {
+fn print_file(rt: &HostRuntime, path: &[u8]) {
     let mut buffer = file::room();
-    let size = file::load(path, &mut buffer);
+    let size = file::load(rt, path, &mut buffer);
     print_cases(&buffer[..size]);
 }
 
-pub fn print_outside() {
+pub fn print_outside(rt: &HostRuntime) {
     print::text(b"outside, record by record\n");
-    print_file(b"outside_fed.cases");
+    print_file(rt, b"outside_fed.cases");
 }
 
-pub fn print_own() {
+pub fn print_own(rt: &HostRuntime) {
     print::text(b"own, record by record\n");
-    print_file(b"own_fed.cases");
+    print_file(rt, b"own_fed.cases");
 }

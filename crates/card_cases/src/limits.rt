@@ -80,10 +80,10 @@ fn print_beyond() {
     print_line(b"no number above 2^64 - 1", beyond.answer());
 }
 
-pub fn print_all() {
+pub fn print_all(rt: &HostRuntime) {
     let mut buffer = file::room();
     print::text(b"limits\n");
-    let size = file::load(b"day.card", &mut buffer);
+    let size = file::load(rt, b"day.card", &mut buffer);
     print_editions(&buffer[..size]);
     print_last_records();
     print_beyond();

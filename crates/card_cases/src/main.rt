@@ -1,6 +1,7 @@
 // Card files: prints the answer of each case, a line each, first of the outside cases and then of our own: read whole, then in chunks, and the small ones
 // of our own cut in two at every place; then of cases given record by record, of what no file of cases can say, and of single fields.
 #![tactic(auto)]
+
 ghost use Rattle.std.specs.Prelude.{◌+◌, ◌≤◌, min, length};
 
 use card_run::answer::CardAnswer;
@@ -61,22 +62,22 @@ fn print_cases(cases: &[u8], way: Way) {
 }
 
 // Prints the lines of a file of cases.
-fn print_all(source: Source, way: Way) {
+fn print_all(rt: &HostRuntime, source: Source, way: Way) {
     let mut buffer = file::room();
     source.print_title(way);
-    let size = source.load(&mut buffer);
+    let size = source.load(rt, &mut buffer);
     print_cases(&buffer[..size], way);
 }
 
-fn main() {
-    print_all(Source::Outside, Way::Whole);
-    print_all(Source::Own, Way::Whole);
-    print_all(Source::Outside, Way::InChunks);
-    print_all(Source::Own, Way::InChunks);
-    print_all(Source::Own, Way::CutAtEveryPlace);
-    fed::print_outside();
-    fed::print_own();
-    limits::print_all();
-    fields::print_outside();
-    fields::print_own();
+fn main(rt: HostRuntime) {
+    print_all(&rt, Source::Outside, Way::Whole);
+    print_all(&rt, Source::Own, Way::Whole);
+    print_all(&rt, Source::Outside, Way::InChunks);
+    print_all(&rt, Source::Own, Way::InChunks);
+    print_all(&rt, Source::Own, Way::CutAtEveryPlace);
+    fed::print_outside(&rt);
+    fed::print_own(&rt);
+    limits::print_all(&rt);
+    fields::print_outside(&rt);
+    fields::print_own(&rt);
 }

@@ -9,10 +9,11 @@ use crate::{buffer, write};
 use card_program::outcome;
 use card_program::outcome::Outcome;
 use card_stream::Stream;
+use files::reading;
 use files::reading::Got;
-use files::{error, reading};
 use out_file::draft::Draft;
 use program::mistake::{Failed, Mistake};
+use std::io::Read;
 
 // What comes of writing the lines of a chunk.
 #[derive(Clone, Copy)]
@@ -28,7 +29,7 @@ enum Written {
 fn write_lines(
     output: Output,
     before: Stream,
-    draft: Draft,
+    draft: &Draft,
     buffer: &mut [u8],
     end: usize,
 ) -> Written
@@ -56,11 +57,11 @@ enum Next {
 }
 
 // Writes what is made of the lines among the first `end` bytes, and reads what comes next behind the unfinished one.
-fn next_chunk(
+fn next_chunk<R: Read>(
     output: Output,
     before: Stream,
-    fd: i32,
-    draft: Draft,
+    reader: &mut R,
+    draft: &Draft,
     buffer: &mut [u8],
     end: usize,
 ) -> Next
@@ -70,7 +71,7 @@ fn next_chunk(
     match write_lines(output, before, draft, buffer, end) {
         Written::Failed(error) => Next::Unwritten(error),
         Written::Tail(tail) => {
-            let got = reading::read_some(fd, &mut buffer[tail..]);
+            let got = reading::read_some(reader, &mut buffer[tail..]);
             let Got::Bytes(size) = got else {
                 return Next::Over(got);
             };
@@ -80,11 +81,11 @@ fn next_chunk(
 }
 
 // Checks a file of which the first bytes are in the buffer, and writes what is made of its lines as long as it is not refused.
-fn copy_by(
+fn copy_by<R: Read>(
     output: Output,
     edition: u64,
-    fd: i32,
-    draft: Draft,
+    reader: &mut R,
+    draft: &Draft,
     buffer: &mut [u8],
     first: usize,
 ) -> Outcome
@@ -101,7 +102,7 @@ fn copy_by(
         if outcome::is_decided(stream.answer()) {
             return outcome::outcome_at(Got::Bytes(end), stream);
         }
-        match next_chunk(output, before, fd, draft, buffer, end) {
+        match next_chunk(output, before, reader, draft, buffer, end) {
             Next::Unwritten(error) => return Outcome::Mistake(Mistake::System(
                 Failed::Write,
                 error,
@@ -118,19 +119,19 @@ fn copy_by(
 }
 
 // The same, behind what stands in front of all that is made of the lines.
-pub(crate) fn copy_all(
+pub(crate) fn copy_all<R: Read>(
     output: Output,
     edition: u64,
-    fd: i32,
-    draft: Draft,
+    reader: &mut R,
+    draft: &Draft,
     buffer: &mut [u8],
     first: usize,
 ) -> Outcome
     requires { Filled buffer.old first }
     ensures { Checked edition result }
 {
-    if write::write_first(output, draft) {
-        return copy_by(output, edition, fd, draft, buffer, first);
+    match write::write_first(output, draft) {
+        Ok(()) => copy_by(output, edition, reader, draft, buffer, first),
+        Err(error) => Outcome::Mistake(Mistake::System(Failed::Write, error)),
     }
-    Outcome::Mistake(Mistake::System(Failed::Write, error::number()))
 }

@@ -10,47 +10,49 @@ use card_program::outcome;
 use card_program::outcome::Outcome;
 use card_stream::Stream;
 use files::reading::Got;
-use files::{error, reading};
+use files::{opening, reading};
 use out_file::draft::Draft;
 use out_file::saved::Saved;
 use out_file::step::Step;
 use out_file::{draft, place};
 use program::mistake::{Failed, Mistake};
+use std::io::Read;
 
 // Gives an accepted file's copy its name.
-fn keep_copy(outcome: Outcome, draft: Draft, out: &[u8]) -> Outcome
+fn keep_copy(rt: &HostRuntime, outcome: Outcome, draft: Draft, out: &[u8]) -> Outcome
     requires { is_accepted outcome ≡ true }
     ensures { (edition : ℕ) → Checked edition outcome → Checked edition result }
 {
-    match draft.keep(out).saved() {
+    match draft.keep(rt, out).saved() {
         Saved::Kept => outcome,
         Saved::Told(mistake) => Outcome::Mistake(mistake),
     }
 }
 
 // Removes the copy of a file that is not accepted.
-fn drop_copy(outcome: Outcome, draft: Draft, out: &[u8])
+fn drop_copy(rt: &HostRuntime, outcome: Outcome, draft: Draft, out: &[u8])
     requires { is_accepted outcome ≡ false }
 {
-    draft.discard(out);
+    draft.discard(rt, out);
 }
 
 // Gives an accepted file's copy its name, and removes any other.
-fn finish(outcome: Outcome, draft: Draft, out: &[u8]) -> Outcome
+fn finish(rt: &HostRuntime, outcome: Outcome, draft: Draft, out: &[u8]) -> Outcome
     ensures { (edition : ℕ) → Checked edition outcome → Checked edition result }
 {
     if outcome::is_accepted(outcome) {
-        return keep_copy(outcome, draft, out);
+        return keep_copy(rt, outcome, draft, out);
     }
-    drop_copy(outcome, draft, out);
+    drop_copy(rt, outcome, draft, out);
     outcome
 }
 
 // Begins the copy of a file of which the first bytes are in the buffer, and fills it.
-fn copy_into(
+fn copy_into<R: Read>(
+    rt: &HostRuntime,
     output: Output,
     edition: u64,
-    fd: i32,
+    reader: &mut R,
     out: &[u8],
     buffer: &mut [u8],
     first: usize,
@@ -58,50 +60,59 @@ fn copy_into(
     requires { Filled buffer.old first }
     ensures { Checked edition result }
 {
-    let draft = draft::begin(out);
+    let draft = draft::begin(rt, out);
     let step = draft.step;
     let Step::Write = step else {
         return Outcome::Mistake(Mistake::System(Failed::Write, draft.error));
     };
-    finish(
-        copy::copy_all(output, edition, fd, draft, buffer, first),
-        draft,
-        out,
-    )
+    let outcome = copy::copy_all(output, edition, reader, &draft, buffer, first);
+    finish(rt, outcome, draft, out)
 }
 
-// Copies what a descriptor reads into the file of this name, which is begun only once there is something to copy.
-fn copy_from(output: Output, edition: u64, fd: i32, out: &[u8], buffer: &mut [u8]) -> Outcome
+// Copies what a reader gives into the file of this name, which is begun only once there is something to copy.
+fn copy_from<R: Read>(
+    rt: &HostRuntime,
+    output: Output,
+    edition: u64,
+    reader: &mut R,
+    out: &[u8],
+    buffer: &mut [u8],
+) -> Outcome
     requires { Filled buffer.old 0 }
     ensures { Checked edition result }
 {
-    let got = reading::read_some(fd, buffer);
+    let got = reading::read_some(reader, buffer);
     let Got::Bytes(first) = got else {
         return outcome::outcome_at(got, Stream::open(edition));
     };
-    copy_into(output, edition, fd, out, buffer, first)
+    copy_into(rt, output, edition, reader, out, buffer, first)
 }
 
 // Copies the file of a name, 65,536 bytes at a time, with the line that the chunk before left unfinished.
-fn copy_file(output: Output, edition: u64, file: &[u8], out: &[u8]) -> Outcome
+fn copy_file(rt: &HostRuntime, output: Output, edition: u64, file: &[u8], out: &[u8]) -> Outcome
     ensures { Checked edition result }
 {
-    let fd = os::open_read(file);
-    if fd < 0 {
-        return Outcome::Mistake(Mistake::System(Failed::Open, error::number()));
+    match opening::open(rt, file) {
+        Err(error) => Outcome::Mistake(Mistake::System(Failed::Open, error)),
+        Ok(mut opened) => {
+            let mut buffer = io::large_buffer();
+            copy_from(rt, output, edition, &mut opened, out, &mut buffer)
+        }
     }
-    let mut buffer = io::large_buffer();
-    let outcome = copy_from(output, edition, fd, out, &mut buffer);
-    libc::close(fd);
-    outcome
 }
 
 // Writes what is made of an accepted file. Of any other there is no copy, and what was at `out` is still there.
-pub(crate) fn copy(output: Output, edition: u64, file: &[u8], out: &[u8]) -> Outcome
+pub(crate) fn copy(
+    rt: &HostRuntime,
+    output: Output,
+    edition: u64,
+    file: &[u8],
+    out: &[u8],
+) -> Outcome
     ensures { Checked edition result }
 {
-    if place::is_free(out) {
-        return copy_file(output, edition, file, out);
+    if place::is_free(rt, out) {
+        return copy_file(rt, output, edition, file, out);
     }
     Outcome::Mistake(Mistake::OutNoFile)
 }

@@ -9,11 +9,11 @@ use edition::Edition;
 use program::mistake::Mistake;
 
 // Writes this output of a file to another, under the edition that these bytes state.
-pub fn work(output: Output, edition: &[u8], file: &[u8], out: &[u8]) -> Outcome
+pub fn work(rt: &HostRuntime, output: Output, edition: &[u8], file: &[u8], out: &[u8]) -> Outcome
     ensures { Worked (edition_of edition.now) result }
 {
     match edition::edition_of(edition) {
         Edition::NoNumber => Outcome::Mistake(Mistake::EditionNoNumber),
-        Edition::Of(number) => file::copy(output, number, file, out),
+        Edition::Of(number) => file::copy(rt, output, number, file, out),
     }
 }

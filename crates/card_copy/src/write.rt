@@ -9,7 +9,6 @@ ghost use Rattle.card_copy.specs.Copying.{InHand, MayBeWritten, Filled, counts, 
 use crate::output::Output;
 use adjustment_rows::{row, rows};
 use card_stream::Stream;
-use files::error;
 use out_file::draft::Draft;
 
 // What comes of writing the finished lines of a chunk.
@@ -22,22 +21,22 @@ pub(crate) enum Finished {
 }
 
 // Writes finished lines of what is in hand, which are masked. Nothing else here writes lines.
-fn write_finished(before: Stream, draft: Draft, lines: &[u8]) -> bool
+fn write_finished(before: Stream, draft: &Draft, lines: &[u8]) -> Result<(), u64>
     requires { MayBeWritten before lines.now }
 {
     draft.write(lines)
 }
 
 // Masks and writes the lines among the first `end` bytes.
-fn write_masked(before: Stream, draft: Draft, buffer: &mut [u8], end: usize) -> Finished
+fn write_masked(before: Stream, draft: &Draft, buffer: &mut [u8], end: usize) -> Finished
     requires { Filled buffer.old end × InHand before (take end buffer.old) }
     ensures { finishes buffer.old end buffer.new result }
 {
     let lines = card_mask::mask_lines(&mut buffer[0..end]);
-    if !write_finished(before, draft, &buffer[0..lines]) {
-        return Finished::Failed(error::number());
+    match write_finished(before, draft, &buffer[0..lines]) {
+        Ok(()) => Finished::Lines(lines),
+        Err(error) => Finished::Failed(error),
     }
-    Finished::Lines(lines)
 }
 
 // Room for the rows of a buffer's lines, which take at most twice as many bytes as these. The `ensures` gives only the length, which lending it as a slice
@@ -49,14 +48,14 @@ fn room() -> [u8; 131072]
 }
 
 // Writes the rows of the lines in these bytes, which are in hand: the first of them is the record that comes next in `before`. Nothing else here writes rows.
-fn write_adjustments(before: Stream, bytes: &[u8], draft: Draft, rows: &[u8]) -> bool
+fn write_adjustments(before: Stream, bytes: &[u8], draft: &Draft, rows: &[u8]) -> Result<(), u64>
     requires { InHand before bytes.now × (rows.now ≡ rows_of (next_number before.state) (cut bytes.now).pieces) }
 {
     draft.write(rows)
 }
 
 // Puts and writes the rows of the lines in these bytes.
-fn write_rows(before: Stream, draft: Draft, bytes: &[u8]) -> Finished
+fn write_rows(before: Stream, draft: &Draft, bytes: &[u8]) -> Finished
     requires { (length bytes.now ≤ 65536) × InHand before bytes.now }
     ensures { counts bytes.now result }
 {
@@ -64,17 +63,17 @@ fn write_rows(before: Stream, draft: Draft, bytes: &[u8]) -> Finished
     let state = before.state;
     let rows = rows::put_rows(state.next_number(), bytes, &mut room);
     let size = rows.size;
-    if !write_adjustments(before, bytes, draft, &room[..size]) {
-        return Finished::Failed(error::number());
+    match write_adjustments(before, bytes, draft, &room[..size]) {
+        Ok(()) => Finished::Lines(rows.lines),
+        Err(error) => Finished::Failed(error),
     }
-    Finished::Lines(rows.lines)
 }
 
 // Writes what is made of the lines among the first `end` bytes.
 pub(crate) fn write_output(
     output: Output,
     before: Stream,
-    draft: Draft,
+    draft: &Draft,
     buffer: &mut [u8],
     end: usize,
 ) -> Finished
@@ -91,16 +90,16 @@ pub(crate) fn write_output(
 const HEADER_ROOM: usize = 86;
 
 // Writes the line that names the fields of the rows. Nothing else here writes it.
-fn write_header(draft: Draft, line: &[u8]) -> bool
+fn write_header(draft: &Draft, line: &[u8]) -> Result<(), u64>
     requires { line.now ≡ header }
 {
     draft.write(line)
 }
 
-// Writes what stands in front of all that is made of the lines, and answers whether it was written.
-pub(crate) fn write_first(output: Output, draft: Draft) -> bool {
+// Writes what stands in front of all that is made of the lines, and gives the number of the error where it was not written.
+pub(crate) fn write_first(output: Output, draft: &Draft) -> Result<(), u64> {
     match output {
-        Output::MaskedCopy => true,
+        Output::MaskedCopy => Ok(()),
         Output::Adjustments => {
             let mut room = [0u8; HEADER_ROOM];
             let size = row::put_header(&mut room, 0);

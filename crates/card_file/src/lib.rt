@@ -1,5 +1,6 @@
 // A card file, record by record and read whole.
 #![tactic(auto)]
+
 ghost use Rattle.std.specs.Prelude.{◌≡◌};
 ghost use Rattle.card_file.specs.Feeding.{fed_of};
 ghost use Rattle.card_file.specs.CardFile.{line_of, unended_of, check_of};

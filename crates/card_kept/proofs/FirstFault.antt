@@ -11,7 +11,6 @@ use Rattle.refusal.specs.declared.Fault.TheVariants.{At}
 use Rattle.refusal.specs.declared.Refusal.{Refusal}
 use Rattle.refusal.specs.Nowhere.{nowhere}
 use Rattle.refusal.specs.Rules.{all_hold, FirstBroken}
-use Rattle.refusal.proofs.Rules.{all_hold_lem}
 use Rattle.text.proofs.Alphabets.{both_left, both_right}
 use Rattle.lines.specs.Lines.{cut}
 use Rattle.lines.proofs.Cuts.{cut_is_cut}

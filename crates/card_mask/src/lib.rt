@@ -1,5 +1,6 @@
 // The masked copy of a card file.
 #![tactic(auto)]
+
 ghost use Rattle.std.specs.Prelude.{◌≡◌, ◌++◌, ◌≤◌, length, drop};
 ghost use Rattle.card_mask.specs.Masked.{masked_piece, masked_file, MasksLines};
 ghost use Rattle.card_mask.specs.Mask.{Masks};
@@ -41,8 +42,8 @@ fn write_masked(file: &[u8], out: &mut [u8])
     requires { length file.now ≤ length out.old }
     ensures { out.new ≡ masked_file file.now ++ drop (length file.now) out.old }
 {
-    bytes::copy(file, out);
     let length = file.len();
+    out[..length].copy_from_slice(file);
     mask_lines(&mut out[..length]);
 }
 

@@ -1,21 +1,22 @@
-// A card file, read from a descriptor in chunks.
+// A card file, read in chunks.
 ghost use Rattle.card_program.specs.Checked.{Checked};
 
 use crate::outcome;
 use crate::outcome::Outcome;
 use card_stream::Stream;
 use files::reading::Got;
-use files::{error, reading};
+use files::{opening, reading};
 use program::mistake::{Failed, Mistake};
+use std::io::Read;
 
 // Reads until the end, an error, or a refusal, which no further byte can change. A file of more reads than are counted counts as unreadable.
-fn check_by(edition: u64, fd: i32, buffer: &mut [u8]) -> Outcome
+fn check_by<R: Read>(edition: u64, reader: &mut R, buffer: &mut [u8]) -> Outcome
     ensures { Checked edition result }
 {
     let mut stream = Stream::open(edition);
     let mut reads = reading::MOST_READS;
     while reads > 0 {
-        let got = reading::read_some(fd, buffer);
+        let got = reading::read_some(reader, buffer);
         let Got::Bytes(size) = got else {
             return outcome::outcome_at(got, stream);
         };
@@ -28,23 +29,20 @@ fn check_by(edition: u64, fd: i32, buffer: &mut [u8]) -> Outcome
     Outcome::Mistake(Mistake::System(Failed::Read, 0))
 }
 
-// Checks the card file that a descriptor reads, 65,536 bytes at a time.
-pub fn check(edition: u64, fd: i32) -> Outcome
+// Checks the card file that a reader gives, 65,536 bytes at a time.
+pub fn check<R: Read>(edition: u64, reader: &mut R) -> Outcome
     ensures { Checked edition result }
 {
     let mut buffer = io::large_buffer();
-    check_by(edition, fd, &mut buffer)
+    check_by(edition, reader, &mut buffer)
 }
 
 // Checks the card file of a name.
-pub fn check_file(edition: u64, file: &[u8]) -> Outcome
+pub fn check_file(rt: &HostRuntime, edition: u64, file: &[u8]) -> Outcome
     ensures { Checked edition result }
 {
-    let fd = os::open_read(file);
-    if fd < 0 {
-        return Outcome::Mistake(Mistake::System(Failed::Open, error::number()));
+    match opening::open(rt, file) {
+        Err(error) => Outcome::Mistake(Mistake::System(Failed::Open, error)),
+        Ok(mut opened) => check(edition, &mut opened),
     }
-    let outcome = check(edition, fd);
-    libc::close(fd);
-    outcome
 }

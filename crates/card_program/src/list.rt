@@ -14,8 +14,8 @@ use edition::Edition;
 use file_list::line;
 use file_list::listed::Listed;
 use file_list::tally::{Said, Tally};
-use files::error;
-use libc::STDOUT_FILENO;
+use files::writing;
+use files::writing::STDOUT;
 use program::argument;
 use program::argument::Argument;
 use program::mistake::{Failed, Mistake};
@@ -56,37 +56,37 @@ fn put_words(outcome: Outcome, out: &mut [u8], at: usize) -> usize
 }
 
 // Writes a file's line, and no other text. Nothing else here writes.
-fn write_line(outcome: Outcome, name: &[u8], line: &[u8]) -> bool
+fn write_line(rt: &HostRuntime, outcome: Outcome, name: &[u8], line: &[u8]) -> Result<(), u64>
     requires { line.now ≡ file_line (words_of outcome) name.now }
 {
-    io::write_all(STDOUT_FILENO, line)
+    writing::write_to(rt, STDOUT, line)
 }
 
-// Prints a file's line by one call, and answers whether it is written.
-fn print_line(outcome: Outcome, name: &[u8]) -> bool
+// Prints a file's line by one call, and gives the number of the error where it is not written.
+fn print_line(rt: &HostRuntime, outcome: Outcome, name: &[u8]) -> Result<(), u64>
     requires { length name.now ≤ 131072 }
 {
     let mut words = [0u8; WORDS];
     let size = put_words(outcome, &mut words, 0);
     let mut room = line::room();
     let end = line::put_line(&words[..size], name, &mut room, 0);
-    write_line(outcome, name, &room[..end])
+    write_line(rt, outcome, name, &room[..end])
 }
 
 // Checks the files that the arguments name, each name read into `name`.
-fn list_by(edition: u64, count: usize, name: &mut [u8]) -> Listed
+fn list_by(rt: &HostRuntime, edition: u64, count: usize, name: &mut [u8]) -> Listed
     requires { length name.old ≤ 131072 }
     ensures { ListedAll said_of (Checked edition) (count - 2) result }
 {
     let mut tally = Tally::none();
     let mut number = FIRST;
     while number < count {
-        let Argument::Bytes(size) = argument::read(number, name) else {
+        let Argument::Bytes(size) = argument::read(rt, number, name) else {
             return Listed::Mistake(Mistake::TooLong);
         };
-        let outcome = check::check_file(edition, &name[..size]);
-        if !print_line(outcome, &name[..size]) {
-            return Listed::Mistake(Mistake::System(Failed::Print, error::number()));
+        let outcome = check::check_file(rt, edition, &name[..size]);
+        if let Err(error) = print_line(rt, outcome, &name[..size]) {
+            return Listed::Mistake(Mistake::System(Failed::Print, error));
         }
         tally = tally.with(said(outcome));
         number += 1;
@@ -95,19 +95,19 @@ fn list_by(edition: u64, count: usize, name: &mut [u8]) -> Listed
 }
 
 // Lists the files that the arguments name, where there are `count` arguments with the program's own name.
-fn list(edition: u64, count: usize) -> Listed
+fn list(rt: &HostRuntime, edition: u64, count: usize) -> Listed
     ensures { ListedAll said_of (Checked edition) (count - 2) result }
 {
     let mut name = argument::room();
-    list_by(edition, count, &mut name)
+    list_by(rt, edition, count, &mut name)
 }
 
 // The same under the edition that these bytes state.
-pub fn list_under(edition: &[u8], count: usize) -> Listed
+pub fn list_under(rt: &HostRuntime, edition: &[u8], count: usize) -> Listed
     ensures { ListedUnder (edition_of edition.now) (count - 2) result }
 {
     match edition::edition_of(edition) {
         Edition::NoNumber => Listed::Mistake(Mistake::EditionNoNumber),
-        Edition::Of(number) => list(number, count),
+        Edition::Of(number) => list(rt, number, count),
     }
 }

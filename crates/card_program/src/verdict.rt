@@ -15,8 +15,8 @@ ghost use Rattle.card_program.specs.Verdict.{
 
 use crate::outcome::Outcome;
 use card_run::answer::{Accepted, CardAnswer};
-use files::error;
-use libc::{STDERR_FILENO, STDOUT_FILENO};
+use files::writing;
+use files::writing::{STDERR, STDOUT};
 use program::mistake;
 use program::mistake::{Failed, Mistake};
 use totals::amounts::Totals;
@@ -118,23 +118,23 @@ pub fn descriptor(outcome: Outcome) -> i32
     ensures { result ≡ descriptor_of outcome }
 {
     match outcome {
-        Outcome::Answer(_) => STDOUT_FILENO,
-        Outcome::Mistake(_) => STDERR_FILENO,
+        Outcome::Answer(_) => STDOUT,
+        Outcome::Mistake(_) => STDERR,
     }
 }
 
 // Writes an outcome's text, and no other.
-fn write(lines: Lines, outcome: Outcome, text: &[u8])
+fn write(rt: &HostRuntime, lines: Lines, outcome: Outcome, text: &[u8])
     requires { text.now ≡ outcome_text lines outcome }
 {
-    if !io::write_all(descriptor(outcome), text) {
-        mistake::tell(Mistake::System(Failed::Print, error::number()));
+    if let Err(error) = writing::write_to(rt, descriptor(outcome), text) {
+        mistake::tell(rt, Mistake::System(Failed::Print, error));
     }
 }
 
 // Prints the verdict, or tells the mistake, by one call.
-pub fn print(lines: Lines, outcome: Outcome) {
+pub fn print(rt: &HostRuntime, lines: Lines, outcome: Outcome) {
     let mut room = [0u8; ROOM];
     let size = put_outcome(lines, outcome, &mut room, 0);
-    write(lines, outcome, &room[..size]);
+    write(rt, lines, outcome, &room[..size]);
 }

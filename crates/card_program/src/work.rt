@@ -6,13 +6,14 @@ use crate::check;
 use crate::outcome::Outcome;
 use edition::Edition;
 use program::mistake::Mistake;
+use std::io::Read;
 
-// Checks the file that a descriptor reads, under the edition that these bytes state.
-pub fn work(edition: &[u8], fd: i32) -> Outcome
+// Checks the file that a reader gives, under the edition that these bytes state.
+pub fn work<R: Read>(edition: &[u8], reader: &mut R) -> Outcome
     ensures { Worked (edition_of edition.now) result }
 {
     match edition::edition_of(edition) {
         Edition::NoNumber => Outcome::Mistake(Mistake::EditionNoNumber),
-        Edition::Of(number) => check::check(number, fd),
+        Edition::Of(number) => check::check(number, reader),
     }
 }

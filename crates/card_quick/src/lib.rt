@@ -1,6 +1,7 @@
 // The quick way through a sale. All its bytes are compared with two pictures of a sale, many at once; what the pictures leave open is judged,
 // and the numbers are read with no second look. A sale that passes is right. Any other goes the slow way, field by field, which finds its fault.
 #![tactic(auto)]
+
 ghost use Rattle.std.specs.Prelude.{◌≡◌, ◌&&◌, length};
 ghost use Rattle.card_content.specs.Content.{in_set};
 ghost use Rattle.card_content.specs.Field.{part_of};

@@ -1,5 +1,6 @@
 // The day sheet of a card file.
 #![tactic(auto)]
+
 ghost use Rattle.std.specs.Prelude.{◌≡◌};
 ghost use Rattle.card_sheet.specs.SheetOf.{sheet_from, SheetOf};
 

@@ -1,5 +1,6 @@
 // One step of a card file: what reading answered of a record is judged at its place, and the state goes behind it or is refused.
 #![tactic(auto)]
+
 ghost use Rattle.std.specs.Prelude.{◌≡◌};
 ghost use Rattle.card_step.specs.Step.{judged_of, took_of};
 

@@ -1,5 +1,6 @@
 // A card file that comes in chunks of any size: the running state by value, and one unfinished record.
 #![tactic(auto)]
+
 ghost use Rattle.std.specs.Prelude.{◌≡◌, drop};
 ghost use Rattle.card_stream.specs.Stream.{open_of, lines_taken, taken_of, ended_of, behind_end, answer_of};
 

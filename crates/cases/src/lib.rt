@@ -1,5 +1,6 @@
 // What the test programs share: reading cases out of a file, cutting files into chunks, and printing a line for each case.
 #![tactic(auto)]
+
 pub mod answer;
 pub mod cursor;
 pub mod cuts;

@@ -1,8 +1,8 @@
 // Printing on standard output. No contract can say what is written.
-use libc::STDOUT_FILENO;
+use files::writing::STDOUT;
 
 pub fn text(bytes: &[u8]) {
-    io::write_all(STDOUT_FILENO, bytes);
+    io::write_all(STDOUT, bytes);
 }
 
 // One byte. Where a text is a byte long this is cheaper to prove than a byte string.
@@ -13,7 +13,7 @@ pub fn byte(b: u8) {
 
 // A number, with no zero in front.
 pub fn number(n: u64) {
-    io::print_decimal(STDOUT_FILENO, n);
+    io::print_decimal(STDOUT, n);
 }
 
 fn zeros(count: usize) {
@@ -38,7 +38,7 @@ pub fn padded(n: u64, width: usize) {
 pub fn hex(bytes: &[u8]) {
     let mut i = 0;
     while i < bytes.len() {
-        io::print_hex(STDOUT_FILENO, bytes[i] as u64, 2);
+        io::print_hex(STDOUT, bytes[i] as u64, 2);
         i += 1;
     }
 }

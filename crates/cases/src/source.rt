@@ -34,12 +34,12 @@ impl Source {
     }
 
     // Reads its file of cases.
-    pub fn load(self, buffer: &mut [u8]) -> usize
+    pub fn load(self, rt: &HostRuntime, buffer: &mut [u8]) -> usize
         ensures { IsPrefixLen result buffer.new }
     {
         match self {
-            Source::Outside => file::load(b"outside.cases", buffer),
-            Source::Own => file::load(b"own.cases", buffer),
+            Source::Outside => file::load(rt, b"outside.cases", buffer),
+            Source::Own => file::load(rt, b"own.cases", buffer),
         }
     }
 }

@@ -1,5 +1,6 @@
 // The bytes of a day sheet, versions 1 and 2: there and back, and from one version to the other.
 #![tactic(auto)]
+
 pub mod converter;
 pub mod layout;
 pub mod number;

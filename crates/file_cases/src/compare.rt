@@ -11,10 +11,10 @@ fn print_same(one: &[u8], other: &[u8]) {
 }
 
 // Prints whether two files hold the same bytes.
-pub fn print(one: &[u8], other: &[u8]) {
+pub fn print(rt: &HostRuntime, one: &[u8], other: &[u8]) {
     let mut left = file::room();
     let mut right = file::room();
-    let left_size = file::load(one, &mut left);
-    let right_size = file::load(other, &mut right);
+    let left_size = file::load(rt, one, &mut left);
+    let right_size = file::load(rt, other, &mut right);
     print_same(&left[..left_size], &right[..right_size]);
 }

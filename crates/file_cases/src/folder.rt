@@ -1,23 +1,37 @@
 // The folder of a case.
 use cases::print;
+use files::writing;
+use std::fs::File;
+use std::{fs, str};
 
 // Makes a folder.
-pub fn make(path: &[u8]) {
-    if os::mkdir(path) != 0 {
+pub fn make(rt: &HostRuntime, path: &[u8]) {
+    let Ok(text) = str::from_utf8(path) else {
+        print::text(b"the folder cannot be made\n");
+        return;
+    };
+    if fs::create_dir(rt, text).is_err() {
         print::text(b"the folder cannot be made\n");
     }
 }
 
 // Puts a file with this content where none is.
-pub fn put(content: &[u8], path: &[u8]) {
-    let fd = os::create(path);
-    io::write_all(fd, content);
-    libc::close(fd);
+pub fn put(rt: &HostRuntime, content: &[u8], path: &[u8]) {
+    let Ok(text) = str::from_utf8(path) else {
+        return;
+    };
+    if let Ok(mut file) = File::create(rt, text) {
+        let _written = writing::write_all(&mut file, content);
+    }
 }
 
 // Removes a folder, which goes only where nothing is left in it.
-pub fn leave(path: &[u8]) {
-    if os::rmdir(path) != 0 {
+pub fn leave(rt: &HostRuntime, path: &[u8]) {
+    let Ok(text) = str::from_utf8(path) else {
+        print::text(b"something else is left\n");
+        return;
+    };
+    if fs::remove_dir(rt, text).is_err() {
         print::text(b"something else is left\n");
     }
 }

@@ -1,7 +1,9 @@
 // What stands at OUT.
 use cases::{answer, file, hash, print};
-use files::reading;
 use files::reading::Loaded;
+use files::{opening, reading};
+use std::fs::File;
+use std::{fs, str};
 
 // How the content of a file is printed.
 #[derive(Clone, Copy)]
@@ -30,28 +32,28 @@ fn print_bytes(shown: Shown, bytes: &[u8]) {
     }
 }
 
-fn print_content(shown: Shown, fd: i32) {
+fn print_content(shown: Shown, opened: File) {
+    let mut reader = opened;
     let mut buffer = file::room();
-    match reading::read_all(fd, &mut buffer) {
+    match reading::read_all(&mut reader, &mut buffer) {
         Loaded::Bytes(size) => print_bytes(shown, &buffer[..size]),
         Loaded::TooLong => print::text(b"OUT is too long\n"),
         Loaded::Failed(_) => print::text(b"OUT is a folder\n"),
     }
 }
 
-fn print_out(shown: Shown, path: &[u8]) {
-    let fd = os::open_read(path);
-    if fd < 0 {
-        print::text(b"no OUT\n");
-        return;
+fn print_out(rt: &HostRuntime, shown: Shown, path: &[u8]) {
+    match opening::open(rt, path) {
+        Ok(opened) => print_content(shown, opened),
+        Err(_) => print::text(b"no OUT\n"),
     }
-    print_content(shown, fd);
-    libc::close(fd);
 }
 
 // Prints what stands at a path, a file or a folder, and removes it.
-pub fn show(shown: Shown, path: &[u8]) {
-    print_out(shown, path);
-    os::unlink(path);
-    os::rmdir(path);
+pub fn show(rt: &HostRuntime, shown: Shown, path: &[u8]) {
+    print_out(rt, shown, path);
+    if let Ok(text) = str::from_utf8(path) {
+        let _file = fs::remove_file(rt, text);
+        let _folder = fs::remove_dir(rt, text);
+    }
 }

@@ -1,9 +1,12 @@
 // The questions to the programs' work, and the texts that it says.
+use crate::no_file::NoFile;
 use card_copy::output::Output;
 use card_program::outcome::Outcome;
 use card_program::verdict::Lines;
 use cases::print;
+use files::opening;
 use payroll_program::check;
+use payroll_program::outcome::PayrollOutcome;
 use sheet_program::read::SheetOutcome;
 use sheet_program::{convert, read};
 
@@ -48,38 +51,62 @@ fn print_sheet(outcome: SheetOutcome) {
     print_first(&room, size);
 }
 
-// Checks a card file from a descriptor.
-fn print_card(lines: Lines, edition: &[u8], file: &[u8]) {
-    let fd = os::open_read(file);
-    print_outcome(lines, card_program::work::work(edition, fd));
-    libc::close(fd);
+// Checks a card file from a reader: of a file that cannot be opened, one that is not open.
+fn print_card(rt: &HostRuntime, lines: Lines, edition: &[u8], file: &[u8]) {
+    match opening::open(rt, file) {
+        Ok(mut opened) => print_outcome(lines, card_program::work::work(edition, &mut opened)),
+        Err(_) => print_outcome(lines, card_program::work::work(edition, &mut NoFile)),
+    }
 }
 
 // Makes an output of a card file.
-fn print_copy(lines: Lines, output: Output, edition: &[u8], file: &[u8], out: &[u8]) {
-    print_outcome(lines, card_copy::work::work(output, edition, file, out));
+fn print_copy(
+    rt: &HostRuntime,
+    lines: Lines,
+    output: Output,
+    edition: &[u8],
+    file: &[u8],
+    out: &[u8],
+) {
+    print_outcome(lines, card_copy::work::work(rt, output, edition, file, out));
 }
 
-// Checks a payroll file from a descriptor.
-fn print_payroll(file: &[u8]) {
-    let fd = os::open_read(file);
+// The text of an outcome of a payroll file.
+fn print_payroll_outcome(outcome: PayrollOutcome) {
     let mut room = [0u8; ROOM];
-    let size = payroll_program::verdict::put_outcome(check::check(fd), &mut room, 0);
+    let size = payroll_program::verdict::put_outcome(outcome, &mut room, 0);
     print_first(&room, size);
-    libc::close(fd);
+}
+
+// Checks a payroll file from a reader.
+fn print_payroll(rt: &HostRuntime, file: &[u8]) {
+    match opening::open(rt, file) {
+        Ok(mut opened) => print_payroll_outcome(check::check(&mut opened)),
+        Err(_) => print_payroll_outcome(check::check(&mut NoFile)),
+    }
 }
 
 // Asks the question of a letter, and prints what its program says.
-pub fn print(letter: u64, edition: &[u8], file: &[u8], out: &[u8]) {
+pub fn print(rt: &HostRuntime, letter: u64, edition: &[u8], file: &[u8], out: &[u8]) {
     match letter {
-        CARD => print_card(Lines::Sales, edition, file),
-        PAYROLL => print_payroll(file),
-        MASK => print_copy(Lines::Sales, Output::MaskedCopy, edition, file, out),
-        SHEET => print_outcome(Lines::Sales, sheet_program::work::work(edition, file, out)),
-        READ => print_sheet(read::read(file)),
-        CONVERT => print_sheet(convert::convert(file, out)),
-        ADJUSTED => print_card(Lines::Adjustments, edition, file),
-        ROWS => print_copy(Lines::Adjustments, Output::Adjustments, edition, file, out),
+        CARD => print_card(rt, Lines::Sales, edition, file),
+        PAYROLL => print_payroll(rt, file),
+        MASK => print_copy(rt, Lines::Sales, Output::MaskedCopy, edition, file, out),
+        SHEET => print_outcome(
+            Lines::Sales,
+            sheet_program::work::work(rt, edition, file, out),
+        ),
+        READ => print_sheet(read::read(rt, file)),
+        CONVERT => print_sheet(convert::convert(rt, file, out)),
+        ADJUSTED => print_card(rt, Lines::Adjustments, edition, file),
+        ROWS => print_copy(
+            rt,
+            Lines::Adjustments,
+            Output::Adjustments,
+            edition,
+            file,
+            out,
+        ),
         _ => print::text(b"no such step\n"),
     }
 }

@@ -27,40 +27,46 @@ const HASH: u64 = b'H' as u64;
 const COMPARE: u64 = b'Q' as u64;
 
 // Does what the letter says.
-fn run(letter: u64, edition: &[u8], file: &[u8], out: &[u8]) {
+fn run(rt: &HostRuntime, letter: u64, edition: &[u8], file: &[u8], out: &[u8]) {
     match letter {
-        FOLDER => folder::make(out),
-        PUT => folder::put(file, out),
-        LEAVE => folder::leave(out),
-        LINES => out::show(Shown::Lines, out),
-        HEX => out::show(Shown::Hex, out),
-        HASH => out::show(Shown::Hash, out),
-        COMPARE => compare::print(file, out),
-        _ => question::print(letter, edition, file, out),
+        FOLDER => folder::make(rt, out),
+        PUT => folder::put(rt, file, out),
+        LEAVE => folder::leave(rt, out),
+        LINES => out::show(rt, Shown::Lines, out),
+        HEX => out::show(rt, Shown::Hex, out),
+        HASH => out::show(rt, Shown::Hash, out),
+        COMPARE => compare::print(rt, file, out),
+        _ => question::print(rt, letter, edition, file, out),
     }
 }
 
 // The same of a step whose EDITION has its length at a place.
-fn run_behind(letter: u64, step: &[u8], at: usize) {
+fn run_behind(rt: &HostRuntime, letter: u64, step: &[u8], at: usize) {
     let edition = cursor::number_at(step, at, LENGTH_BYTES);
     let file = cursor::number_at(step, edition.behind_part(), LENGTH_BYTES);
     let out = cursor::number_at(step, file.behind_part(), LENGTH_BYTES);
-    run(letter, edition.part(step), file.part(step), out.part(step));
+    run(
+        rt,
+        letter,
+        edition.part(step),
+        file.part(step),
+        out.part(step),
+    );
 }
 
 // Runs a step.
-fn run_step(step: &[u8]) {
+fn run_step(rt: &HostRuntime, step: &[u8]) {
     let letter = cursor::number_at(step, 0, LETTER_BYTES);
     let title = cursor::number_at(step, letter.behind, LENGTH_BYTES);
     print::text(title.part(step));
-    run_behind(letter.value, step, title.behind_part());
+    run_behind(rt, letter.value, step, title.behind_part());
 }
 
 // Runs the step at a place, and answers the place behind it.
-pub fn run_at(steps: &[u8], at: usize) -> usize
+pub fn run_at(rt: &HostRuntime, steps: &[u8], at: usize) -> usize
     ensures { min (at + 1) (length steps.now) ≤ result }
 {
     let length = cursor::number_at(steps, at, LENGTH_BYTES);
-    run_step(length.part(steps));
+    run_step(rt, length.part(steps));
     length.behind_part()
 }

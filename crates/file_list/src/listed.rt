@@ -4,8 +4,8 @@ ghost use Rattle.file_list.specs.Tally.{tally_line};
 
 use crate::tally;
 use crate::tally::Tally;
-use files::error;
-use libc::STDOUT_FILENO;
+use files::writing;
+use files::writing::STDOUT;
 use program::mistake;
 use program::mistake::{Failed, Mistake};
 
@@ -21,24 +21,24 @@ pub enum Listed {
 const ROOM: usize = 128;
 
 // Writes a tally's line, and no other text.
-fn write(tally: Tally, text: &[u8])
+fn write(rt: &HostRuntime, tally: Tally, text: &[u8])
     requires { text.now ≡ tally_line tally }
 {
-    if !io::write_all(STDOUT_FILENO, text) {
-        mistake::tell(Mistake::System(Failed::Print, error::number()));
+    if let Err(error) = writing::write_to(rt, STDOUT, text) {
+        mistake::tell(rt, Mistake::System(Failed::Print, error));
     }
 }
 
-fn print_tally(tally: Tally) {
+fn print_tally(rt: &HostRuntime, tally: Tally) {
     let mut room = [0u8; ROOM];
     let size = tally::put_tally(tally, &mut room, 0);
-    write(tally, &room[..size]);
+    write(rt, tally, &room[..size]);
 }
 
 // Prints the tally, or tells the mistake, by one call.
-pub fn print(listed: Listed) {
+pub fn print(rt: &HostRuntime, listed: Listed) {
     match listed {
-        Listed::Files(tally) => print_tally(tally),
-        Listed::Mistake(mistake) => mistake::tell(mistake),
+        Listed::Files(tally) => print_tally(rt, tally),
+        Listed::Mistake(mistake) => mistake::tell(rt, mistake),
     }
 }

@@ -1,10 +1,21 @@
-// The number of the error that a call left.
+// The number of the error that a call gave.
+use std::io;
 
-// What the last call that failed left as its error's number; 0 where that is no number of an error. No contract can say more.
-pub fn number() -> u64 {
-    let number = os::errno();
+// The system's number of an error; 0 where that is no number of an error. No contract can say more.
+pub fn number(error: &io::Error) -> u64 {
+    let Some(number) = error.raw_os_error() else {
+        return 0;
+    };
     if number < 0 {
         return 0;
     }
     number as u64
+}
+
+// The same of what a call came to.
+pub fn numbered(went: io::Result<()>) -> Result<(), u64> {
+    match went {
+        Ok(()) => Ok(()),
+        Err(error) => Err(number(&error)),
+    }
 }

@@ -1,9 +1,10 @@
-// Reading a descriptor. No contract can say which bytes are read: the promises are of the count, and of what each answer means.
+// Reading a file or standard input. No contract can say which bytes are read: the promises are of the count, and of what each answer means.
 ghost use Rattle.std.specs.Prelude.{◌-◌, ◌≤◌, ◌≡◌, length};
 ghost use Rattle.files.specs.Loaded.{LoadedWithin, GotWithin};
 ghost use Rattle.files.specs.Reading.{got_of};
 
 use crate::error;
+use std::io::Read;
 
 // What one read means: an error, which has its number, is not the end.
 #[derive(Clone, Copy)]
@@ -45,28 +46,30 @@ pub fn got_of(answer: isize, error: u64, free: &[u8]) -> Got
 }
 
 // One read.
-pub fn read_some(fd: i32, free: &mut [u8]) -> Got
+pub fn read_some<R: Read>(reader: &mut R, free: &mut [u8]) -> Got
     ensures { GotWithin (length free.old) result }
 {
-    let answer = libc::read(fd, free);
-    got_of(answer, error::number(), free)
+    match reader.read(free) {
+        Ok(size) => got_of(size as isize, 0, free),
+        Err(error) => got_of(-1, error::number(&error), free),
+    }
 }
 
 // One read into what is free behind the first `done` bytes.
-fn read_more(fd: i32, buffer: &mut [u8], done: usize) -> Got
+fn read_more<R: Read>(reader: &mut R, buffer: &mut [u8], done: usize) -> Got
     requires { done ≤ length buffer.old }
     ensures { GotWithin (length buffer.old - done) result }
 {
-    read_some(fd, &mut buffer[done..])
+    read_some(reader, &mut buffer[done..])
 }
 
 // Reads until the end, an error, or the end of the buffer.
-pub fn read_all(fd: i32, buffer: &mut [u8]) -> Loaded
+pub fn read_all<R: Read>(reader: &mut R, buffer: &mut [u8]) -> Loaded
     ensures { LoadedWithin (length buffer.new) result }
 {
     let mut done = 0;
     while done < buffer.len() {
-        match read_more(fd, buffer, done) {
+        match read_more(reader, buffer, done) {
             Got::Failed(error) => return Loaded::Failed(error),
             Got::End => return Loaded::Bytes(done),
             Got::Bytes(n) => done += n,

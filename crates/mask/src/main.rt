@@ -1,5 +1,6 @@
 // mask EDITION FILE OUT: writes the masked copy of an accepted card file to OUT, and prints the file's verdict.
 #![tactic(auto)]
+
 use card_copy::output::Output;
 use card_copy::work;
 use card_program::verdict;
@@ -8,20 +9,24 @@ use program::argument::Three;
 use program::mistake::{Mistake, Program};
 use program::{argument, mistake};
 
-fn main() {
-    if os::arg_count() != 4 {
-        mistake::tell(Mistake::Usage(Program::Mask));
+fn main(rt: HostRuntime) {
+    if argument::count(&rt) != 4 {
+        mistake::tell(&rt, Mistake::Usage(Program::Mask));
         return;
     }
     let mut edition = argument::room();
     let mut file = io::buffer();
     let mut out = io::buffer();
-    let Three::Bytes(a, b, c) = argument::read_three(&mut edition, &mut file, &mut out) else {
-        mistake::tell(Mistake::TooLong);
+    let Three::Bytes(a, b, c) = argument::read_three(&rt, &mut edition, &mut file, &mut out) else {
+        mistake::tell(&rt, Mistake::TooLong);
         return;
     };
-    verdict::print(
-        Lines::Sales,
-        work::work(Output::MaskedCopy, &edition[..a], &file[..b], &out[..c]),
+    let outcome = work::work(
+        &rt,
+        Output::MaskedCopy,
+        &edition[..a],
+        &file[..b],
+        &out[..c],
     );
+    verdict::print(&rt, Lines::Sales, outcome);
 }

@@ -50,7 +50,7 @@ fn in_chunks(file: &[u8], out: &mut [u8])
 {
     let length = file.len();
     if length <= out.len() {
-        bytes::copy(file, out);
+        out[..length].copy_from_slice(file);
         mask_in_chunks(&mut out[..length]);
     }
 }
@@ -62,7 +62,7 @@ fn in_two(file: &[u8], place: usize, out: &mut [u8])
 {
     let length = file.len();
     if length <= out.len() {
-        bytes::copy(file, out);
+        out[..length].copy_from_slice(file);
         mask_in_two(&mut out[..length], place);
     }
 }

@@ -1,6 +1,7 @@
 // Masked copies: prints the answer of each case and the hash of its output, a line each, first of the outside cases and then of our own: of files read
 // whole, then in chunks, and of the small ones of our own cut in two at every place.
 #![tactic(auto)]
+
 ghost use Rattle.std.specs.Prelude.{◌+◌, ◌≤◌, min, length};
 
 use cases::cursor::{EDITION_BYTES, LENGTH_BYTES};
@@ -50,17 +51,17 @@ fn print_cases(cases: &[u8], way: Way) {
 }
 
 // Prints the lines of a file of cases.
-fn print_all(source: Source, way: Way) {
+fn print_all(rt: &HostRuntime, source: Source, way: Way) {
     let mut buffer = file::room();
     source.print_title(way);
-    let size = source.load(&mut buffer);
+    let size = source.load(rt, &mut buffer);
     print_cases(&buffer[..size], way);
 }
 
-fn main() {
-    print_all(Source::Outside, Way::Whole);
-    print_all(Source::Own, Way::Whole);
-    print_all(Source::Outside, Way::InChunks);
-    print_all(Source::Own, Way::InChunks);
-    print_all(Source::Own, Way::CutAtEveryPlace);
+fn main(rt: HostRuntime) {
+    print_all(&rt, Source::Outside, Way::Whole);
+    print_all(&rt, Source::Own, Way::Whole);
+    print_all(&rt, Source::Outside, Way::InChunks);
+    print_all(&rt, Source::Own, Way::InChunks);
+    print_all(&rt, Source::Own, Way::CutAtEveryPlace);
 }

@@ -27,17 +27,17 @@ module _ {s r : Step} (t : Turned s r) (e : is_resting s ≡ false) where
       (ltb-true _ _
       (whenever (λ s w. not (is_resting s)) (λ s w. ltb (calls_left (next_of s w)) (calls_left s)) refl s t.went (ap not e)))
 
-ran : {s to : Step} → Driven to s → (answers : List Went) × (to ≡ run_from s answers)
+ran : {to s : Step} → Driven to s → (answers : List Went) × (to ≡ run_from s answers)
 unfolding run_from
 ran (there e) = ([], refl)
 ran (onward w e d) = let r = ran d in (w ∷ r.0, r.1)
 
-rests : {s to : Step} → Driven to s → is_resting to ≡ true
+rests : {to s : Step} → Driven to s → is_resting to ≡ true
 rests (there e) = e
 rests (onward w e d) = rests d
 
 module _ (inside : Step → Bool) (closed : Whenever (λ s w. inside s && not (is_resting s)) (λ s w. inside (next_of s w))) where
-  within : {s to : Step} → Driven to s → inside s ≡ true → inside to ≡ true
+  within : {to s : Step} → Driven to s → inside s ≡ true → inside to ≡ true
   within (there e) h = h
   within (onward {from = s} w e d) h =
       within d (whenever (λ s w. inside s && not (is_resting s)) (λ s w. inside (next_of s w)) closed s w (both h (ap not e)))

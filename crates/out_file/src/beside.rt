@@ -30,6 +30,6 @@ pub(crate) fn mark_of(name: &[u8]) -> [u8; MARK]
         return mark;
     }
     let from = name.len() - MARK;
-    bytes::copy(&name[from..], &mut mark);
+    mark.copy_from_slice(&name[from..]);
     mark
 }

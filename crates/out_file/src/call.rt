@@ -1,93 +1,148 @@
-// The system calls that save a file. Each asks that the machine of `step` names it, and answers whether it went well.
+// The system calls that save a file. Each asks that the machine of `step` names it, and gives the number of the error where it went wrong.
 ghost use Rattle.std.specs.Prelude.{◌≡◌};
 ghost use Rattle.out_file.specs.Driving.{Turned};
 
 use crate::draft::Draft;
 use crate::step::Step;
-use crate::{beside, folder};
+use crate::{beside, chance, folder};
+use files::{error, opening, writing};
+use std::fs::{File, Permissions};
+use std::os::unix::fs::PermissionsExt;
+use std::{fs, str};
+
+// The modes of a file that its owner alone may read and write.
+pub(crate) const OWNER_ALONE: u32 = 0o600;
+
+// Gives the file of one name another.
+fn rename_named(rt: &HostRuntime, name: &[u8], path: &[u8]) -> Result<(), u64> {
+    let Ok(from) = str::from_utf8(name) else {
+        return Err(opening::NO_TEXT);
+    };
+    let Ok(to) = str::from_utf8(path) else {
+        return Err(opening::NO_TEXT);
+    };
+    error::numbered(fs::rename(rt, from, to))
+}
+
+// Removes the file of a name.
+fn remove_named(rt: &HostRuntime, name: &[u8]) -> Result<(), u64> {
+    let Ok(text) = str::from_utf8(name) else {
+        return Err(opening::NO_TEXT);
+    };
+    error::numbered(fs::remove_file(rt, text))
+}
+
+// Lets a file's owner alone read it and write to it.
+fn narrow_file(file: &File) -> Result<(), u64> {
+    error::numbered(file.set_permissions(Permissions::from_mode(OWNER_ALONE)))
+}
+
+// Writes what comes next in a file.
+fn write_file(file: &File, bytes: &[u8]) -> Result<(), u64> {
+    let mut writer = file;
+    writing::write_all(&mut writer, bytes)
+}
 
 impl Draft {
     // Makes the file of this temporary name, whose mark is filled in by chance.
-    fn create_as(self, name: &mut [u8]) -> Draft
+    fn create_as(self, rt: &HostRuntime, name: &mut [u8]) -> Draft
         requires { self.step ≡ Step.Create }
         ensures { Turned self.step result.step }
     {
-        let fd = os::create_temp(name);
-        let mark = beside::mark_of(name);
+        let created = chance::create(rt, name);
         let mut made = self;
-        made.fd = fd;
-        made.mark = mark;
-        made.told(fd >= 0)
+        made.mark = beside::mark_of(name);
+        match created {
+            Ok(file) => {
+                made.file = Some(file);
+                made.told(Ok(()))
+            }
+            Err(error) => made.told(Err(error)),
+        }
     }
 
     // Makes the file under a temporary name, and moves the machine on.
-    pub(crate) fn create(self, path: &[u8]) -> Draft
+    pub(crate) fn create(self, rt: &HostRuntime, path: &[u8]) -> Draft
         requires { self.step ≡ Step.Create }
         ensures { Turned self.step result.step }
     {
         let mut name = [0u8; beside::ROOM];
         let mark = self.mark;
         let size = beside::put_name(path, mark, &mut name);
-        self.create_as(&mut name[0..size])
+        self.create_as(rt, &mut name[0..size])
     }
 
     // Lets the file's owner alone read it and write to it.
-    pub(crate) fn narrow(self) -> bool
-        requires { self.step ≡ Step.Narrow }
+    pub(crate) fn narrow(&self) -> Result<(), u64>
+        requires { self.now.step ≡ Step.Narrow }
     {
-        libc::fchmod(self.fd, 0o600) == 0
+        match &self.file {
+            Some(file) => narrow_file(file),
+            None => Err(0),
+        }
     }
 
-    pub(crate) fn write_on(self, bytes: &[u8]) -> bool
-        requires { self.step ≡ Step.Write }
+    pub(crate) fn write_on(&self, bytes: &[u8]) -> Result<(), u64>
+        requires { self.now.step ≡ Step.Write }
     {
-        io::write_all(self.fd, bytes)
+        match &self.file {
+            Some(file) => write_file(file, bytes),
+            None => Err(0),
+        }
     }
 
     // Sees that all of it has reached the disk.
-    pub(crate) fn store(self) -> bool
-        requires { self.step ≡ Step.Store }
+    pub(crate) fn store(&self) -> Result<(), u64>
+        requires { self.now.step ≡ Step.Store }
     {
-        libc::fsync(self.fd) == 0
+        match &self.file {
+            Some(file) => error::numbered(file.sync_all()),
+            None => Err(0),
+        }
     }
 
-    pub(crate) fn close(self) -> bool
+    // Closes the file. The library tells nothing of how that went; all of it has reached the disk before.
+    pub(crate) fn close(self) -> Draft
         requires { self.step ≡ Step.Close }
+        ensures { Turned self.step result.step }
     {
-        libc::close(self.fd) == 0
+        let mut closed = self;
+        closed.file = None;
+        closed.told(Ok(()))
     }
 
     // Gives the closed file its path, in the place of what was there.
-    pub(crate) fn rename(self, path: &[u8]) -> bool
-        requires { self.step ≡ Step.Rename }
+    pub(crate) fn rename(&self, rt: &HostRuntime, path: &[u8]) -> Result<(), u64>
+        requires { self.now.step ≡ Step.Rename }
     {
         let mut name = [0u8; beside::ROOM];
-        let mark = self.mark;
-        let size = beside::put_name(path, mark, &mut name);
-        os::rename(&name[..size], path) == 0
+        let size = beside::put_name(path, self.mark, &mut name);
+        rename_named(rt, &name[..size], path)
     }
 
     // Sees that the file's new name has reached the disk.
-    pub(crate) fn sync_folder(self, path: &[u8]) -> bool
-        requires { self.step ≡ Step.SyncFolder }
+    pub(crate) fn sync_folder(&self, rt: &HostRuntime, path: &[u8]) -> Result<(), u64>
+        requires { self.now.step ≡ Step.SyncFolder }
     {
-        folder::sync(path)
+        folder::sync(rt, path)
     }
 
     // Closes the file, which is not to stay.
-    pub(crate) fn abandon(self) -> bool
+    pub(crate) fn abandon(self) -> Draft
         requires { self.step ≡ Step.Abandon }
+        ensures { Turned self.step result.step }
     {
-        libc::close(self.fd) == 0
+        let mut closed = self;
+        closed.file = None;
+        closed.told(Ok(()))
     }
 
     // Removes the closed file.
-    pub(crate) fn remove(self, path: &[u8]) -> bool
-        requires { self.step ≡ Step.Remove }
+    pub(crate) fn remove(&self, rt: &HostRuntime, path: &[u8]) -> Result<(), u64>
+        requires { self.now.step ≡ Step.Remove }
     {
         let mut name = [0u8; beside::ROOM];
-        let mark = self.mark;
-        let size = beside::put_name(path, mark, &mut name);
-        os::unlink(&name[..size]) == 0
+        let size = beside::put_name(path, self.mark, &mut name);
+        remove_named(rt, &name[..size])
     }
 }

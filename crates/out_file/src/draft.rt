@@ -1,34 +1,34 @@
 // A file that is written under a temporary name, and takes its own name only when all of it is there: the machine of `step` says what to call, and its
 // calls are made here. What the system calls do, no contract can say.
-ghost use Rattle.std.specs.Prelude.{◌≡◌, true, false};
+ghost use Rattle.std.specs.Prelude.{◌≡◌, false, IsOk, is_ok};
 ghost use Rattle.out_file.specs.Saving.{next_of, is_resting, is_well, went_of};
 ghost use Rattle.out_file.specs.Driving.{Turned, Driven, Begun, Ended};
 
 use crate::beside;
 use crate::step::{Step, Went};
-use files::error;
+use std::fs::File;
 
-// A file in the making: its descriptor, the mark in its temporary name, the call that comes next, and the number of the error that the first call that
+// A file in the making: the open file, the mark in its temporary name, the call that comes next, and the number of the error that the first call that
 // failed left, 0 before.
-#[derive(Clone, Copy)]
+#[derive(Drop)]
 pub struct Draft {
-    pub fd: i32,
+    pub file: Option<File>,
     pub mark: [u8; beside::MARK],
     pub step: Step,
     pub error: u64,
 }
 
 // Begins the file that is to have this path: it waits for what is to be written, or could not be made.
-pub fn begin(path: &[u8]) -> Draft
+pub fn begin(rt: &HostRuntime, path: &[u8]) -> Draft
     ensures { Begun result.step }
 {
     let draft = Draft {
-        fd: -1,
+        file: None,
         mark: *b"XXXXXX",
         step: Step::Create,
         error: 0,
     };
-    draft.drive(path)
+    draft.drive(rt, path)
 }
 
 impl Draft {
@@ -37,106 +37,115 @@ impl Draft {
         ensures { result.step ≡ next_of self.step went }
     {
         let step = self.step;
-        let next = step.next(went);
-        let mark = self.mark;
-        Draft {
-            fd: self.fd,
-            mark,
-            step: next,
-            error: self.error,
-        }
+        let mut moved = self;
+        moved.step = step.next(went);
+        moved
     }
 
-    // Notes the error that the last call left, where it is the first.
-    pub fn noted(self) -> Draft
+    // Notes the number of the error that a call left, where it is the first.
+    pub fn noted(self, error: u64) -> Draft
         ensures { result.step ≡ self.step }
     {
         let mut noted = self;
         if noted.error == 0 {
-            let number = error::number();
-            noted.error = number;
+            noted.error = error;
         }
         noted
     }
 
     // Tells the machine whether a call went well.
-    pub(crate) fn told(self, well: bool) -> Draft
-        ensures { result.step ≡ next_of self.step (went_of well) }
+    pub(crate) fn told(self, answer: Result<(), u64>) -> Draft
+        ensures { result.step ≡ next_of self.step (went_of (is_ok answer)) }
     {
-        if well {
-            return self.answered(Went::Well);
+        match answer {
+            Ok(()) => self.answered(Went::Well),
+            Err(error) => self.noted(error).answered(Went::Wrong),
         }
-        self.noted().answered(Went::Wrong)
     }
 
     // Makes the call that the machine names, and tells it how that went. Where it rests there is none, and it stays there.
-    fn turn(self, path: &[u8]) -> Draft
+    fn turn(self, rt: &HostRuntime, path: &[u8]) -> Draft
         ensures { Turned self.step result.step }
     {
         let step = self.step;
         match step {
-            Step::Create => self.create(path),
-            Step::Narrow => self.told(self.narrow()),
-            Step::Store => self.told(self.store()),
-            Step::Close => self.told(self.close()),
-            Step::Rename => self.told(self.rename(path)),
-            Step::SyncFolder => self.told(self.sync_folder(path)),
-            Step::Abandon => self.told(self.abandon()),
-            Step::Remove => self.told(self.remove(path)),
+            Step::Create => self.create(rt, path),
+            Step::Narrow => {
+                let went = self.narrow();
+                self.told(went)
+            }
+            Step::Store => {
+                let went = self.store();
+                self.told(went)
+            }
+            Step::Close => self.close(),
+            Step::Rename => {
+                let went = self.rename(rt, path);
+                self.told(went)
+            }
+            Step::SyncFolder => {
+                let went = self.sync_folder(rt, path);
+                self.told(went)
+            }
+            Step::Abandon => self.abandon(),
+            Step::Remove => {
+                let went = self.remove(rt, path);
+                self.told(went)
+            }
             _ => self.answered(Went::Well),
         }
     }
 
     // Whether the machine rests.
-    fn is_resting(self) -> bool
-        ensures { result ≡ is_resting self.step }
+    fn is_resting(&self) -> bool
+        ensures { result ≡ is_resting self.now.step }
     {
         let step = self.step;
         step.is_resting()
     }
 
     // Makes the machine's calls until it rests.
-    fn drive(self, path: &[u8]) -> Draft
+    fn drive(self, rt: &HostRuntime, path: &[u8]) -> Draft
         ensures { Driven result.step self.step }
     {
         let mut draft = self;
         while !draft.is_resting() {
-            draft = draft.turn(path);
+            draft = draft.turn(rt, path);
         }
         draft
     }
 
-    // Writes what comes next in the file, and answers whether all of it was written: where not, the caller notes the error. A file that does not wait for
-    // it is not written to.
-    pub fn write(self, bytes: &[u8]) -> bool
-        ensures { result ≡ true → self.step ≡ Step.Write }
+    // Writes what comes next in the file, or gives the number of the error where not all of it was written: the caller notes it. A file that does not wait
+    // for it is not written to.
+    pub fn write(&self, bytes: &[u8]) -> Result<(), u64>
+        ensures { IsOk result → self.now.step ≡ Step.Write }
     {
         let step = self.step;
         match step {
             Step::Write => self.write_on(bytes),
-            _ => false,
+            _ => Err(0),
         }
     }
 
     // Gives the machine the answer that ends the writes, and makes the calls that follow.
-    fn end(self, went: Went, path: &[u8]) -> Draft
+    fn end(self, rt: &HostRuntime, went: Went, path: &[u8]) -> Draft
         requires { is_well went ≡ false }
         ensures { Ended (next_of self.step went) result.step }
     {
-        self.answered(went).drive(path)
+        self.answered(went).drive(rt, path)
     }
 
     // Ends the file, all of which is written, and which is to take its path.
-    pub fn keep(self, path: &[u8]) -> Draft
+    pub fn keep(self, rt: &HostRuntime, path: &[u8]) -> Draft
         ensures { Ended (next_of self.step Went.Last) result.step }
     {
-        self.end(Went::Last, path)
+        self.end(rt, Went::Last, path)
     }
 
     // Ends the file, of which nothing is to stay.
-    pub fn discard(self, path: &[u8]) -> Draft
+    pub fn discard(self, rt: &HostRuntime, path: &[u8]) -> Draft
         ensures { Ended (next_of self.step Went.Wrong) result.step }
     {
-        self.end(Went::Wrong, path)
+        self.end(rt, Went::Wrong, path)
     }
 }

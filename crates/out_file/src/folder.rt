@@ -2,7 +2,14 @@
 ghost use Rattle.std.specs.Prelude.{◌≡◌};
 ghost use Rattle.out_file.specs.Beside.{folder_size, folder_of};
 
-use libc::PATH_MAX;
+use files::{error, opening};
+use std::fs::File;
+
+// The longest path that Linux takes.
+pub(crate) const PATH_MAX: usize = 4096;
+
+// The error of a file system that cannot sync a folder (`EINVAL`).
+const NO_SUCH_THING: u64 = 22;
 
 // How many bytes of a path name its folder: all up to the last '/', and with it.
 fn folder_size(path: &[u8]) -> usize
@@ -29,23 +36,21 @@ pub(crate) fn folder_of(path: &[u8]) -> &[u8]
     &path[..size]
 }
 
-// Opens the folder of a path, and answers a descriptor, or -1.
-fn open_folder(path: &[u8]) -> i32 {
+// Opens the folder of a path.
+fn open_folder(rt: &HostRuntime, path: &[u8]) -> Result<File, u64> {
     let folder = folder_of(path);
     if folder.len() == 0 {
-        return os::open_read(b".");
+        return opening::open(rt, b".");
     }
-    os::open_read(folder)
+    opening::open(rt, folder)
 }
 
-// Sees that the names in the folder of a path have reached the disk, and answers whether they have. Where a file system has no such thing (EINVAL), there
-// is nothing to wait for.
-pub(crate) fn sync(path: &[u8]) -> bool {
-    let fd = open_folder(path);
-    if fd < 0 {
-        return false;
+// Sees that the names in the folder of a path have reached the disk, or gives the number of the error. Where a file system has no such thing, there is
+// nothing to wait for.
+pub(crate) fn sync(rt: &HostRuntime, path: &[u8]) -> Result<(), u64> {
+    let folder = open_folder(rt, path)?;
+    match error::numbered(folder.sync_all()) {
+        Err(NO_SUCH_THING) => Ok(()),
+        synced => synced,
     }
-    let synced = libc::fsync(fd) == 0 || os::errno() == libc::EINVAL;
-    libc::close(fd);
-    synced
 }

@@ -1,15 +1,16 @@
 // payroll < FILE: checks a payroll file, and prints its verdict.
 // payroll FILE..: checks many payroll files, and prints a line for each and the tally.
 #![tactic(auto)]
-use file_list::listed;
-use libc::STDIN_FILENO;
-use payroll_program::{check, list, verdict};
 
-fn main() {
-    let count = os::arg_count();
+use file_list::listed;
+use payroll_program::{check, list, verdict};
+use program::argument;
+
+fn main(rt: HostRuntime) {
+    let count = argument::count(&rt);
     if count < 2 {
-        verdict::print(check::check(STDIN_FILENO));
+        verdict::print(&rt, check::check(&mut rt.stdin()));
         return;
     }
-    listed::print(list::list(count));
+    listed::print(&rt, list::list(&rt, count));
 }

@@ -90,7 +90,7 @@ pub fn put_behind(bytes: &[u8], out: &mut [u8], at: usize) -> usize
         return at;
     }
     let end = at + size;
-    bytes::copy(bytes, &mut out[at..end]);
+    out[at..end].copy_from_slice(bytes);
     end
 }
 

@@ -1,4 +1,5 @@
 // A payroll file read whole, and its answer.
 #![tactic(auto)]
+
 pub mod answer;
 pub mod file;

@@ -8,7 +8,7 @@ use lib.ListN.{length}
 use Rattle.refusal.specs.declared.Cause.{Cause}
 use Rattle.refusal.specs.declared.Refusal.{Refusal}
 use Rattle.refusal.specs.Rules.{first_broken}
-use Rattle.refusal.proofs.Rules.{all_hold_lem, none_broken, gives_first}
+use Rattle.refusal.proofs.Rules.{none_broken, gives_first}
 use Rattle.lines.specs.Lines.{cut}
 use Rattle.first_fault.specs.InTurn.{rest, FirstFault, NoFault}
 use Rattle.first_fault.proofs.InTurn.{none_or_first}

@@ -10,7 +10,6 @@ use Rattle.text.specs.Part.{positions}
 use Rattle.payroll_record.specs.declared.kind.Kind.{Kind}
 use Rattle.payroll_record.specs.declared.kind.Kind.TheVariants.{FileHeader, BatchHeader, SegmentA, SegmentB, SegmentZ, BatchTrailer, FileTrailer}
 use Rattle.payroll_record.specs.declared.kind.KindFound.TheVariants.{Known}
-use Rattle.payroll_record.specs.declared.reading.Reading.TheVariants.{Detail as detail}
 use Rattle.payroll_record.specs.Detail.{payment_rules}
 use Rattle.payroll_record.specs.Reading.{read_as}
 use Rattle.payroll_record.proofs.Fields.{Writes}

@@ -1,21 +1,22 @@
-// A payroll file, read from a descriptor in chunks.
+// A payroll file, read in chunks.
 ghost use Rattle.payroll_program.specs.Checked.{Checked};
 
 use crate::outcome;
 use crate::outcome::PayrollOutcome;
 use files::reading::Got;
-use files::{error, reading};
+use files::{opening, reading};
 use payroll_stream::Stream;
 use program::mistake::{Failed, Mistake};
+use std::io::Read;
 
 // Reads until the end, an error, or a refusal, which no further byte can change. A file of more reads than are counted counts as unreadable.
-fn check_by(fd: i32, buffer: &mut [u8]) -> PayrollOutcome
+fn check_by<R: Read>(reader: &mut R, buffer: &mut [u8]) -> PayrollOutcome
     ensures { Checked result }
 {
     let mut stream = Stream::open();
     let mut reads = reading::MOST_READS;
     while reads > 0 {
-        let got = reading::read_some(fd, buffer);
+        let got = reading::read_some(reader, buffer);
         let Got::Bytes(size) = got else {
             return outcome::outcome_at(got, stream);
         };
@@ -28,23 +29,20 @@ fn check_by(fd: i32, buffer: &mut [u8]) -> PayrollOutcome
     PayrollOutcome::Mistake(Mistake::System(Failed::Read, 0))
 }
 
-// Checks the payroll file that a descriptor reads, 65,536 bytes at a time.
-pub fn check(fd: i32) -> PayrollOutcome
+// Checks the payroll file that a reader gives, 65,536 bytes at a time.
+pub fn check<R: Read>(reader: &mut R) -> PayrollOutcome
     ensures { Checked result }
 {
     let mut buffer = io::large_buffer();
-    check_by(fd, &mut buffer)
+    check_by(reader, &mut buffer)
 }
 
 // Checks the payroll file of a name.
-pub fn check_file(file: &[u8]) -> PayrollOutcome
+pub fn check_file(rt: &HostRuntime, file: &[u8]) -> PayrollOutcome
     ensures { Checked result }
 {
-    let fd = os::open_read(file);
-    if fd < 0 {
-        return PayrollOutcome::Mistake(Mistake::System(Failed::Open, error::number()));
+    match opening::open(rt, file) {
+        Err(error) => PayrollOutcome::Mistake(Mistake::System(Failed::Open, error)),
+        Ok(mut opened) => check(&mut opened),
     }
-    let outcome = check(fd);
-    libc::close(fd);
-    outcome
 }

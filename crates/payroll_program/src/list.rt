@@ -11,8 +11,8 @@ use crate::{check, verdict};
 use file_list::line;
 use file_list::listed::Listed;
 use file_list::tally::{Said, Tally};
-use files::error;
-use libc::STDOUT_FILENO;
+use files::writing;
+use files::writing::STDOUT;
 use payroll_file::answer::PayrollAnswer;
 use program::argument;
 use program::argument::Argument;
@@ -52,37 +52,42 @@ fn put_words(outcome: PayrollOutcome, out: &mut [u8], at: usize) -> usize
 }
 
 // Writes a file's line, and no other text. Nothing else here writes.
-fn write_line(outcome: PayrollOutcome, name: &[u8], line: &[u8]) -> bool
+fn write_line(
+    rt: &HostRuntime,
+    outcome: PayrollOutcome,
+    name: &[u8],
+    line: &[u8],
+) -> Result<(), u64>
     requires { line.now ≡ file_line (words_of outcome) name.now }
 {
-    io::write_all(STDOUT_FILENO, line)
+    writing::write_to(rt, STDOUT, line)
 }
 
-// Prints a file's line by one call, and answers whether it is written.
-fn print_line(outcome: PayrollOutcome, name: &[u8]) -> bool
+// Prints a file's line by one call, and gives the number of the error where it is not written.
+fn print_line(rt: &HostRuntime, outcome: PayrollOutcome, name: &[u8]) -> Result<(), u64>
     requires { length name.now ≤ 131072 }
 {
     let mut words = [0u8; WORDS];
     let size = put_words(outcome, &mut words, 0);
     let mut room = line::room();
     let end = line::put_line(&words[..size], name, &mut room, 0);
-    write_line(outcome, name, &room[..end])
+    write_line(rt, outcome, name, &room[..end])
 }
 
 // Checks the files that the arguments name, each name read into `name`.
-fn list_by(count: usize, name: &mut [u8]) -> Listed
+fn list_by(rt: &HostRuntime, count: usize, name: &mut [u8]) -> Listed
     requires { length name.old ≤ 131072 }
     ensures { ListedAll said_of Checked (count - 1) result }
 {
     let mut tally = Tally::none();
     let mut number = FIRST;
     while number < count {
-        let Argument::Bytes(size) = argument::read(number, name) else {
+        let Argument::Bytes(size) = argument::read(rt, number, name) else {
             return Listed::Mistake(Mistake::TooLong);
         };
-        let outcome = check::check_file(&name[..size]);
-        if !print_line(outcome, &name[..size]) {
-            return Listed::Mistake(Mistake::System(Failed::Print, error::number()));
+        let outcome = check::check_file(rt, &name[..size]);
+        if let Err(error) = print_line(rt, outcome, &name[..size]) {
+            return Listed::Mistake(Mistake::System(Failed::Print, error));
         }
         tally = tally.with(said(outcome));
         number += 1;
@@ -91,9 +96,9 @@ fn list_by(count: usize, name: &mut [u8]) -> Listed
 }
 
 // Lists the files that the arguments name, where there are `count` arguments with the program's own name.
-pub fn list(count: usize) -> Listed
+pub fn list(rt: &HostRuntime, count: usize) -> Listed
     ensures { ListedAll said_of Checked (count - 1) result }
 {
     let mut name = argument::room();
-    list_by(count, &mut name)
+    list_by(rt, count, &mut name)
 }

@@ -4,8 +4,8 @@ ghost use Rattle.wording.specs.Put.{Puts};
 ghost use Rattle.payroll_program.specs.Verdict.{accepted_text, verdict_text, outcome_text, descriptor_of};
 
 use crate::outcome::PayrollOutcome;
-use files::error;
-use libc::{STDERR_FILENO, STDOUT_FILENO};
+use files::writing;
+use files::writing::{STDERR, STDOUT};
 use payroll_file::answer::{Accepted, PayrollAnswer};
 use program::mistake;
 use program::mistake::{Failed, Mistake};
@@ -49,23 +49,23 @@ pub fn descriptor(outcome: PayrollOutcome) -> i32
     ensures { result ≡ descriptor_of outcome }
 {
     match outcome {
-        PayrollOutcome::Answer(_) => STDOUT_FILENO,
-        PayrollOutcome::Mistake(_) => STDERR_FILENO,
+        PayrollOutcome::Answer(_) => STDOUT,
+        PayrollOutcome::Mistake(_) => STDERR,
     }
 }
 
 // Writes an outcome's text, and no other.
-fn write(outcome: PayrollOutcome, text: &[u8])
+fn write(rt: &HostRuntime, outcome: PayrollOutcome, text: &[u8])
     requires { text.now ≡ outcome_text outcome }
 {
-    if !io::write_all(descriptor(outcome), text) {
-        mistake::tell(Mistake::System(Failed::Print, error::number()));
+    if let Err(error) = writing::write_to(rt, descriptor(outcome), text) {
+        mistake::tell(rt, Mistake::System(Failed::Print, error));
     }
 }
 
 // Prints the verdict, or tells the mistake, by one call.
-pub fn print(outcome: PayrollOutcome) {
+pub fn print(rt: &HostRuntime, outcome: PayrollOutcome) {
     let mut room = [0u8; ROOM];
     let size = put_outcome(outcome, &mut room, 0);
-    write(outcome, &room[..size]);
+    write(rt, outcome, &room[..size]);
 }

@@ -1,5 +1,6 @@
 // The records of a payroll file: their tables, and what reading a record's bytes answers.
 #![tactic(auto)]
+
 pub mod batch_header;
 pub mod batch_trailer;
 pub mod detail;

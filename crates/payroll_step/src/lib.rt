@@ -1,5 +1,6 @@
 // One record more of a payroll file, judged at its place: the running state takes what reading answered, and the next state is handed back.
 #![tactic(auto)]
+
 mod fault;
 
 ghost use Rattle.std.specs.Prelude.{◌≡◌};

@@ -1,5 +1,6 @@
 // A payroll file that comes in chunks of any size, or record by record: the running state by value, and one unfinished record.
 #![tactic(auto)]
+
 ghost use Rattle.std.specs.Prelude.{◌≡◌, drop};
 ghost use Rattle.payroll_stream.specs.Stream.{
   open_of,

@@ -2,7 +2,7 @@
 ghost use Rattle.std.specs.Prelude.{◌≡◌, length};
 ghost use Rattle.program.specs.Argument.{argument_of, GivenIn, ThreeIn};
 
-use files::error;
+use std::env::{Env, FillError};
 
 // What reading an argument answers.
 #[derive(Clone, Copy)]
@@ -40,25 +40,39 @@ pub fn argument_of(size: usize, error: u64) -> Argument
     Argument::Bytes(size)
 }
 
+// How many arguments there are, with the program's own name.
+pub fn count(rt: &HostRuntime) -> usize {
+    let mut room = [0u8; 1];
+    for number in 0..usize::MAX {
+        if let Err(FillError::NotPresent) = rt.arg(number, &mut room) {
+            return number;
+        }
+    }
+    usize::MAX
+}
+
 // Reads an argument into `room`; one that is missing has no bytes.
-pub fn read(number: usize, room: &mut [u8]) -> Argument
+pub fn read(rt: &HostRuntime, number: usize, room: &mut [u8]) -> Argument
     ensures { GivenIn room.new result }
 {
-    let size = os::arg(number, room);
-    argument_of(size, error::number())
+    match rt.arg(number, room) {
+        Ok(size) => argument_of(size, 0),
+        Err(FillError::NotPresent) => argument_of(0, 0),
+        Err(FillError::TooLong) => argument_of(0, NAME_TOO_LONG),
+    }
 }
 
 // Reads the arguments EDITION, or what stands in its place, FILE and OUT, each into its room.
-pub fn read_three(edition: &mut [u8], file: &mut [u8], out: &mut [u8]) -> Three
+pub fn read_three(rt: &HostRuntime, edition: &mut [u8], file: &mut [u8], out: &mut [u8]) -> Three
     ensures { ThreeIn edition.new file.new out.new result }
 {
-    let Argument::Bytes(first) = read(1, edition) else {
+    let Argument::Bytes(first) = read(rt, 1, edition) else {
         return Three::TooLong;
     };
-    let Argument::Bytes(second) = read(2, file) else {
+    let Argument::Bytes(second) = read(rt, 2, file) else {
         return Three::TooLong;
     };
-    let Argument::Bytes(third) = read(3, out) else {
+    let Argument::Bytes(third) = read(rt, 3, out) else {
         return Three::TooLong;
     };
     Three::Bytes(first, second, third)

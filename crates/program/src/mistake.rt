@@ -4,7 +4,8 @@ ghost use Rattle.wording.specs.Put.{Puts};
 ghost use Rattle.program.specs.Sentence.{arguments_of, failed_of, sentence_of};
 
 use crate::reason;
-use libc::STDERR_FILENO;
+use files::writing;
+use files::writing::STDERR;
 use wording::put::text;
 
 // A program that can be called wrongly: `payroll` takes any names.
@@ -133,15 +134,15 @@ pub fn put(mistake: Mistake, out: &mut [u8], at: usize) -> usize
 }
 
 // Writes a mistake's sentence, and no other text, to standard error.
-fn say(mistake: Mistake, sentence: &[u8])
+fn say(rt: &HostRuntime, mistake: Mistake, sentence: &[u8])
     requires { sentence.now ≡ sentence_of mistake }
 {
-    io::write_all(STDERR_FILENO, sentence);
+    let _written = writing::write_to(rt, STDERR, sentence);
 }
 
 // Says a mistake on standard error, by one call.
-pub fn tell(mistake: Mistake) {
+pub fn tell(rt: &HostRuntime, mistake: Mistake) {
     let mut room = [0u8; ROOM];
     let size = put(mistake, &mut room, 0);
-    say(mistake, &room[..size]);
+    say(rt, mistake, &room[..size]);
 }

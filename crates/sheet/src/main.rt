@@ -2,14 +2,15 @@
 // sheet --convert FILE OUT: writes a day sheet to OUT in the other version, and prints the numbers of that one.
 // sheet FILE: prints the numbers of a day sheet.
 #![tactic(auto)]
+
 use card_program::verdict::Lines;
 use program::argument::{Argument, Three};
 use program::mistake::{Mistake, Program};
 use program::{argument, mistake};
 use sheet_program::{convert, read, verdict, work};
 
-fn tell_usage() {
-    mistake::tell(Mistake::Usage(Program::Sheet));
+fn tell_usage(rt: &HostRuntime) {
+    mistake::tell(rt, Mistake::Usage(Program::Sheet));
 }
 
 fn is_convert(argument: &[u8]) -> bool {
@@ -17,49 +18,49 @@ fn is_convert(argument: &[u8]) -> bool {
 }
 
 // Converts, or writes the sheet of a card file under the edition that the first argument states.
-fn save_sheet(first: &[u8], file: &[u8], out: &[u8]) {
+fn save_sheet(rt: &HostRuntime, first: &[u8], file: &[u8], out: &[u8]) {
     if is_convert(first) {
-        verdict::print(convert::convert(file, out));
+        verdict::print(rt, convert::convert(rt, file, out));
         return;
     }
-    card_program::verdict::print(Lines::Sales, work::work(first, file, out));
+    card_program::verdict::print(rt, Lines::Sales, work::work(rt, first, file, out));
 }
 
 // Saves a sheet of the file that the second argument names in the one that the third does.
-fn save_named() {
+fn save_named(rt: &HostRuntime) {
     let mut first = argument::room();
     let mut file = io::buffer();
     let mut out = io::buffer();
-    let Three::Bytes(a, b, c) = argument::read_three(&mut first, &mut file, &mut out) else {
-        mistake::tell(Mistake::TooLong);
+    let Three::Bytes(a, b, c) = argument::read_three(rt, &mut first, &mut file, &mut out) else {
+        mistake::tell(rt, Mistake::TooLong);
         return;
     };
-    save_sheet(&first[..a], &file[..b], &out[..c]);
+    save_sheet(rt, &first[..a], &file[..b], &out[..c]);
 }
 
 // Prints the numbers of a sheet; `--convert` alone is no name.
-fn print_sheet(file: &[u8]) {
+fn print_sheet(rt: &HostRuntime, file: &[u8]) {
     if is_convert(file) {
-        tell_usage();
+        tell_usage(rt);
         return;
     }
-    verdict::print(read::read(file));
+    verdict::print(rt, read::read(rt, file));
 }
 
 // Prints the numbers of the sheet that the first argument names.
-fn print_named() {
+fn print_named(rt: &HostRuntime) {
     let mut file = io::buffer();
-    let Argument::Bytes(size) = argument::read(1, &mut file) else {
-        mistake::tell(Mistake::TooLong);
+    let Argument::Bytes(size) = argument::read(rt, 1, &mut file) else {
+        mistake::tell(rt, Mistake::TooLong);
         return;
     };
-    print_sheet(&file[..size]);
+    print_sheet(rt, &file[..size]);
 }
 
-fn main() {
-    match os::arg_count() {
-        2 => print_named(),
-        4 => save_named(),
-        _ => tell_usage(),
+fn main(rt: HostRuntime) {
+    match argument::count(&rt) {
+        2 => print_named(&rt),
+        4 => save_named(&rt),
+        _ => tell_usage(&rt),
     }
 }

@@ -1,6 +1,7 @@
 // Day sheets: prints the answer of each case, a line each, below the name of the file that the cases stand in: sheets to read, to write and to convert, and
 // the sheets of card files, first the outside cases and then our own. Our own tell the whole output in hex, the outside ones its hash.
 #![tactic(auto)]
+
 ghost use Rattle.std.specs.Prelude.{◌+◌, ◌≤◌, min, length};
 
 use cases::cursor::EDITION_BYTES;
@@ -48,46 +49,55 @@ fn print_cases(question: Question, cases: &[u8], told: Told) {
 }
 
 // Prints the name of a file of cases, and their lines.
-fn print_file(path: &[u8], question: Question, told: Told) {
+fn print_file(rt: &HostRuntime, path: &[u8], question: Question, told: Told) {
     let mut buffer = file::room();
     print::text(path);
     print::byte(b'\n');
-    let size = file::load(path, &mut buffer);
+    let size = file::load(rt, path, &mut buffer);
     print_cases(question, &buffer[..size], told);
 }
 
-fn print_outside() {
-    print_file(b"outside_read.cases", Question::Read, Told::ByHash);
+fn print_outside(rt: &HostRuntime) {
+    print_file(rt, b"outside_read.cases", Question::Read, Told::ByHash);
     print_file(
+        rt,
         b"outside_write1.cases",
         Question::Write(Version::One),
         Told::ByHash,
     );
     print_file(
+        rt,
         b"outside_write2.cases",
         Question::Write(Version::Two),
         Told::ByHash,
     );
-    print_file(b"outside_convert.cases", Question::Convert, Told::ByHash);
+    print_file(
+        rt,
+        b"outside_convert.cases",
+        Question::Convert,
+        Told::ByHash,
+    );
 }
 
-fn print_own() {
-    print_file(b"own_read.cases", Question::Read, Told::InHex);
+fn print_own(rt: &HostRuntime) {
+    print_file(rt, b"own_read.cases", Question::Read, Told::InHex);
     print_file(
+        rt,
         b"own_write1.cases",
         Question::Write(Version::One),
         Told::InHex,
     );
     print_file(
+        rt,
         b"own_write2.cases",
         Question::Write(Version::Two),
         Told::InHex,
     );
-    print_file(b"own_convert.cases", Question::Convert, Told::InHex);
-    print_file(b"own_of_file.cases", Question::OfFile, Told::InHex);
+    print_file(rt, b"own_convert.cases", Question::Convert, Told::InHex);
+    print_file(rt, b"own_of_file.cases", Question::OfFile, Told::InHex);
 }
 
-fn main() {
-    print_outside();
-    print_own();
+fn main(rt: HostRuntime) {
+    print_outside(&rt);
+    print_own(&rt);
 }

@@ -15,19 +15,19 @@ use program::mistake::Mistake;
 use sheet_numbers::sheet::Sheet;
 
 // Saves a sheet in the other version, and answers that one's numbers.
-fn save_converted(sheet: Sheet, bytes: &[u8], out: &[u8]) -> SheetOutcome
+fn save_converted(rt: &HostRuntime, sheet: Sheet, bytes: &[u8], out: &[u8]) -> SheetOutcome
     requires { bytes.now ≡ bytes_of (converted sheet) }
     ensures { SheetConverted (SheetOutcome.Read (SheetRead.Read (converted sheet))) → SheetConverted result }
 {
     let new = sheet.converted();
-    match save::save(new, bytes, out) {
+    match save::save(rt, new, bytes, out) {
         Saved::Kept => SheetOutcome::Read(SheetRead::Read(new)),
         Saved::Told(mistake) => SheetOutcome::Mistake(mistake),
     }
 }
 
 // Converts a sheet's bytes. There is room for the longer sheet, so a sheet that was read is never refused here.
-fn convert_bytes(bytes: &[u8], out: &[u8]) -> SheetOutcome
+fn convert_bytes(rt: &HostRuntime, bytes: &[u8], out: &[u8]) -> SheetOutcome
     ensures { SheetConverted result }
 {
     let read = reader::read(bytes);
@@ -37,26 +37,26 @@ fn convert_bytes(bytes: &[u8], out: &[u8]) -> SheetOutcome
     let mut room = [0u8; layout::WIDTH_2];
     converter::convert(bytes, &mut room);
     let width = layout::version_of(sheet.converted()).width();
-    save_converted(sheet, &room[..width], out)
+    save_converted(rt, sheet, &room[..width], out)
 }
 
 // Converts the sheet of a name.
-fn convert_file(file: &[u8], out: &[u8]) -> SheetOutcome
+fn convert_file(rt: &HostRuntime, file: &[u8], out: &[u8]) -> SheetOutcome
     ensures { SheetConverted result }
 {
     let mut room = [0u8; load::ROOM];
-    match load::load(file, &mut room) {
+    match load::load(rt, file, &mut room) {
         Content::Mistake(mistake) => SheetOutcome::Mistake(mistake),
-        Content::Bytes(size) => convert_bytes(&room[..size], out),
+        Content::Bytes(size) => convert_bytes(rt, &room[..size], out),
     }
 }
 
 // Writes the sheet of a name in the other version. Where there is none, what was at `out` is still there; `out` may be the sheet itself.
-pub fn convert(file: &[u8], out: &[u8]) -> SheetOutcome
+pub fn convert(rt: &HostRuntime, file: &[u8], out: &[u8]) -> SheetOutcome
     ensures { SheetConverted result }
 {
-    if place::is_free(out) {
-        return convert_file(file, out);
+    if place::is_free(rt, out) {
+        return convert_file(rt, file, out);
     }
     SheetOutcome::Mistake(Mistake::OutNoFile)
 }

@@ -3,8 +3,9 @@ ghost use Rattle.std.specs.Prelude.{length};
 ghost use Rattle.sheet_program.specs.Content.{ContentWithin};
 
 use files::reading::Loaded;
-use files::{error, reading};
+use files::{opening, reading};
 use program::mistake::{Failed, Mistake};
+use std::io::Read;
 
 #[derive(Clone, Copy)]
 pub(crate) enum Content {
@@ -16,11 +17,11 @@ pub(crate) enum Content {
 // One byte more than the longer sheet has, to see whether a file goes on behind it.
 pub(crate) const ROOM: usize = 82;
 
-// Loads what a descriptor reads.
-fn load_from(fd: i32, room: &mut [u8]) -> Content
+// Loads what a reader gives.
+fn load_from<R: Read>(reader: &mut R, room: &mut [u8]) -> Content
     ensures { ContentWithin (length room.new) result }
 {
-    match reading::read_all(fd, room) {
+    match reading::read_all(reader, room) {
         Loaded::Failed(error) => Content::Mistake(Mistake::System(Failed::Read, error)),
         Loaded::Bytes(size) => Content::Bytes(size),
         Loaded::TooLong => Content::Bytes(room.len()),
@@ -28,14 +29,11 @@ fn load_from(fd: i32, room: &mut [u8]) -> Content
 }
 
 // Loads the file of a name.
-pub(crate) fn load(file: &[u8], room: &mut [u8]) -> Content
+pub(crate) fn load(rt: &HostRuntime, file: &[u8], room: &mut [u8]) -> Content
     ensures { ContentWithin (length room.new) result }
 {
-    let fd = os::open_read(file);
-    if fd < 0 {
-        return Content::Mistake(Mistake::System(Failed::Open, error::number()));
+    match opening::open(rt, file) {
+        Err(error) => Content::Mistake(Mistake::System(Failed::Open, error)),
+        Ok(mut opened) => load_from(&mut opened, room),
     }
-    let content = load_from(fd, room);
-    libc::close(fd);
-    content
 }

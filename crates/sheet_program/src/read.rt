@@ -14,11 +14,11 @@ pub enum SheetOutcome {
 }
 
 // Reads the day sheet of a name.
-pub fn read(file: &[u8]) -> SheetOutcome
+pub fn read(rt: &HostRuntime, file: &[u8]) -> SheetOutcome
     ensures { SheetChecked result }
 {
     let mut room = [0u8; load::ROOM];
-    match load::load(file, &mut room) {
+    match load::load(rt, file, &mut room) {
         Content::Mistake(mistake) => SheetOutcome::Mistake(mistake),
         Content::Bytes(size) => SheetOutcome::Read(reader::read(&room[..size])),
     }

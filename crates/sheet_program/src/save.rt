@@ -8,13 +8,13 @@ use out_file::saved::Saved;
 use sheet_numbers::sheet::Sheet;
 
 // Writes a sheet's bytes, and no other, into the file of this name. Nothing else here writes.
-pub(crate) fn save(sheet: Sheet, bytes: &[u8], out: &[u8]) -> Saved
+pub(crate) fn save(rt: &HostRuntime, sheet: Sheet, bytes: &[u8], out: &[u8]) -> Saved
     requires { bytes.now ≡ bytes_of sheet }
     ensures { TellsOfFiles result }
 {
-    let draft = draft::begin(out);
-    if draft.write(bytes) {
-        return draft.keep(out).saved();
+    let draft = draft::begin(rt, out);
+    match draft.write(bytes) {
+        Ok(()) => draft.keep(rt, out).saved(),
+        Err(error) => draft.noted(error).discard(rt, out).saved(),
     }
-    draft.noted().discard(out).saved()
 }

@@ -16,8 +16,8 @@ use crate::read::SheetOutcome;
 use card_program::verdict;
 use day_sheet::number::Form;
 use day_sheet::reader::SheetRead;
-use files::error;
-use libc::{STDERR_FILENO, STDOUT_FILENO};
+use files::writing;
+use files::writing::{STDERR, STDOUT};
 use program::mistake;
 use program::mistake::{Failed, Mistake};
 use sheet_numbers::sheet::{Heading, Sheet};
@@ -109,23 +109,23 @@ pub fn descriptor(outcome: SheetOutcome) -> i32
     ensures { result ≡ descriptor_of outcome }
 {
     match outcome {
-        SheetOutcome::Read(_) => STDOUT_FILENO,
-        SheetOutcome::Mistake(_) => STDERR_FILENO,
+        SheetOutcome::Read(_) => STDOUT,
+        SheetOutcome::Mistake(_) => STDERR,
     }
 }
 
 // Writes an outcome's text, and no other.
-fn write(outcome: SheetOutcome, text: &[u8])
+fn write(rt: &HostRuntime, outcome: SheetOutcome, text: &[u8])
     requires { text.now ≡ outcome_text outcome }
 {
-    if !io::write_all(descriptor(outcome), text) {
-        mistake::tell(Mistake::System(Failed::Print, error::number()));
+    if let Err(error) = writing::write_to(rt, descriptor(outcome), text) {
+        mistake::tell(rt, Mistake::System(Failed::Print, error));
     }
 }
 
 // Prints the numbers of a day sheet or its refusal, or tells the mistake, by one call.
-pub fn print(outcome: SheetOutcome) {
+pub fn print(rt: &HostRuntime, outcome: SheetOutcome) {
     let mut room = [0u8; ROOM];
     let size = put_outcome(outcome, &mut room, 0);
-    write(outcome, &room[..size]);
+    write(rt, outcome, &room[..size]);
 }

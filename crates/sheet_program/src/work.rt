@@ -8,11 +8,11 @@ use edition::Edition;
 use program::mistake::Mistake;
 
 // Writes the day sheet of a file into another, under the edition that these bytes state.
-pub fn work(edition: &[u8], file: &[u8], out: &[u8]) -> Outcome
+pub fn work(rt: &HostRuntime, edition: &[u8], file: &[u8], out: &[u8]) -> Outcome
     ensures { Worked (edition_of edition.now) result }
 {
     match edition::edition_of(edition) {
         Edition::NoNumber => Outcome::Mistake(Mistake::EditionNoNumber),
-        Edition::Of(number) => write::write(number, file, out),
+        Edition::Of(number) => write::write(rt, number, file, out),
     }
 }

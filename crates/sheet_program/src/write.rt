@@ -16,15 +16,15 @@ use out_file::saved::Saved;
 use program::mistake::{Failed, Mistake};
 
 // Saves the sheet of a file's numbers, and no other.
-fn save_sheet(edition: u64, numbers: Accepted, bytes: &[u8], out: &[u8]) -> Saved
+fn save_sheet(rt: &HostRuntime, edition: u64, numbers: Accepted, bytes: &[u8], out: &[u8]) -> Saved
     requires { bytes.now ≡ bytes_of (sheet_from edition numbers) }
     ensures { TellsOfFiles result }
 {
-    save::save(card_sheet::sheet_from(edition, numbers), bytes, out)
+    save::save(rt, card_sheet::sheet_from(edition, numbers), bytes, out)
 }
 
 // Writes a file's numbers as a sheet into the file of this name.
-fn save_numbers(edition: u64, numbers: Accepted, out: &[u8]) -> Saved
+fn save_numbers(rt: &HostRuntime, edition: u64, numbers: Accepted, out: &[u8]) -> Saved
     ensures { TellsOfFiles result }
 {
     let mut bytes = [0u8; layout::WIDTH_2];
@@ -32,39 +32,39 @@ fn save_numbers(edition: u64, numbers: Accepted, out: &[u8]) -> Saved
     else {
         return Saved::Told(Mistake::System(Failed::Write, 0));
     };
-    save_sheet(edition, numbers, &bytes, out)
+    save_sheet(rt, edition, numbers, &bytes, out)
 }
 
 // Saves the sheet of an accepted file; any other answer has none.
-fn save_answer(edition: u64, answer: CardAnswer, out: &[u8]) -> Outcome
+fn save_answer(rt: &HostRuntime, edition: u64, answer: CardAnswer, out: &[u8]) -> Outcome
     ensures { Checked edition (Outcome.Answer answer) → Checked edition result }
 {
     let CardAnswer::Accepted(numbers) = answer else {
         return Outcome::Answer(answer);
     };
-    match save_numbers(edition, numbers, out) {
+    match save_numbers(rt, edition, numbers, out) {
         Saved::Kept => Outcome::Answer(answer),
         Saved::Told(mistake) => Outcome::Mistake(mistake),
     }
 }
 
 // Checks the card file of a name, and saves its sheet.
-fn write_file(edition: u64, file: &[u8], out: &[u8]) -> Outcome
+fn write_file(rt: &HostRuntime, edition: u64, file: &[u8], out: &[u8]) -> Outcome
     ensures { Checked edition result }
 {
-    let outcome = check::check_file(edition, file);
+    let outcome = check::check_file(rt, edition, file);
     match outcome {
         Outcome::Mistake(_) => outcome,
-        Outcome::Answer(answer) => save_answer(edition, answer, out),
+        Outcome::Answer(answer) => save_answer(rt, edition, answer, out),
     }
 }
 
 // Writes the day sheet of an accepted file. Of any other there is no sheet, and what was at `out` is still there.
-pub(crate) fn write(edition: u64, file: &[u8], out: &[u8]) -> Outcome
+pub(crate) fn write(rt: &HostRuntime, edition: u64, file: &[u8], out: &[u8]) -> Outcome
     ensures { Checked edition result }
 {
-    if place::is_free(out) {
-        return write_file(edition, file, out);
+    if place::is_free(rt, out) {
+        return write_file(rt, edition, file, out);
     }
     Outcome::Mistake(Mistake::OutNoFile)
 }
