@@ -18,15 +18,41 @@ use Rattle.answers.specs.CardFile.{stream}
 use Rattle.answers.specs.PayrollFile.{state as payroll_state, opened as payroll_opened, accepted as paid, stream as payroll_stream}
 use Rattle.answers.specs.Samples.{sale, payment}
 use base.Fml.{Lft}
-use Rattle.c_chunks.proofs.card.lossivurn_card_stream_open.Reads as CardOpen
-use Rattle.c_chunks.proofs.card.lossivurn_card_stream_take.Reads as CardTake
-use Rattle.c_chunks.proofs.card.lossivurn_card_stream_end.Reads as CardEnd
-use Rattle.c_chunks.proofs.card.lossivurn_card_stream_answer.Reads as CardAnswer
-use Rattle.c_chunks.proofs.payroll.lossivurn_payroll_stream_open.Reads as PayrollOpen
-use Rattle.c_chunks.proofs.payroll.lossivurn_payroll_stream_take.Reads as PayrollTake
-use Rattle.c_chunks.proofs.payroll.lossivurn_payroll_stream_end.Reads as PayrollEnd
-use Rattle.c_chunks.proofs.payroll.lossivurn_payroll_stream_answer.Reads as PayrollAnswer
-use Rattle.answers.specs.Held.{OneOutcome, TellsOutcome, lent, lent_mut, three, four}
+use Rattle.c_chunks.specs.contracts.card.lossivurn_card_stream_open as CardOpen
+use Rattle.c_chunks.specs.contracts.card.lossivurn_card_stream_take as CardTake
+use Rattle.c_chunks.specs.contracts.card.lossivurn_card_stream_end as CardEnd
+use Rattle.c_chunks.specs.contracts.card.lossivurn_card_stream_answer as CardAnswer
+use Rattle.c_chunks.specs.contracts.payroll.lossivurn_payroll_stream_open as PayrollOpen
+use Rattle.c_chunks.specs.contracts.payroll.lossivurn_payroll_stream_take as PayrollTake
+use Rattle.c_chunks.specs.contracts.payroll.lossivurn_payroll_stream_end as PayrollEnd
+use Rattle.c_chunks.specs.contracts.payroll.lossivurn_payroll_stream_answer as PayrollAnswer
+use borrow.Fn.Read.{r_last}
+use Rattle.answers.specs.Held.{Claim, fact_of, logic, memory, run, OneOutcome, TellsOutcome, lent, lent_mut, three, four}
+
+-- what each contract says
+abbrev CardOpenSays : Claim CardOpen.ended
+CardOpenSays κs a r s = fact_of ((CardOpen.clauses logic memory run κs a).ensures tt r s) (r_last _)
+
+abbrev CardTakeSays : Claim CardTake.ended
+CardTakeSays κs a r s = fact_of ((CardTake.clauses logic memory run κs a).ensures tt r s) (r_last _)
+
+abbrev CardEndSays : Claim CardEnd.ended
+CardEndSays κs a r s = fact_of ((CardEnd.clauses logic memory run κs a).ensures tt r s) (r_last _)
+
+abbrev CardAnswerSays : Claim CardAnswer.ended
+CardAnswerSays κs a r s = fact_of ((CardAnswer.clauses logic memory run κs a).ensures tt r s) (r_last _)
+
+abbrev PayrollOpenSays : Claim PayrollOpen.ended
+PayrollOpenSays κs a r s = fact_of ((PayrollOpen.clauses logic memory run κs a).ensures tt r s) (r_last _)
+
+abbrev PayrollTakeSays : Claim PayrollTake.ended
+PayrollTakeSays κs a r s = fact_of ((PayrollTake.clauses logic memory run κs a).ensures tt r s) (r_last _)
+
+abbrev PayrollEndSays : Claim PayrollEnd.ended
+PayrollEndSays κs a r s = fact_of ((PayrollEnd.clauses logic memory run κs a).ensures tt r s) (r_last _)
+
+abbrev PayrollAnswerSays : Claim PayrollAnswer.ended
+PayrollAnswerSays κs a r s = fact_of ((PayrollAnswer.clauses logic memory run κs a).ensures tt r s) (r_last _)
 
 -- one outcome of all three that a call leaves with the caller
 abbrev OneKept : {L : Type 0} {A R S : L → Type 0} → ((κs : L) → S κs → Kept) → ((κs : L) → A κs → R κs → S κs → Type 0) → Type 0
@@ -56,90 +82,90 @@ without_bytes k = record { numbers = k.numbers; waiting = k.waiting; bytes = rep
 
 pub record CChunks (κ : Lft) : Type 0 where
   -- `lossivurn_card_stream_open`: edition 1 open, so that 22 comes at the end at the earliest; bytes of the file before left waiting
-  pub card_open : OneKept (λ κs s. left s.1.0 s.1.1.0 s.1.1.1.0) CardOpen.Post
+  pub card_open : OneKept (λ κs s. left s.1.0 s.1.1.0 s.1.1.1.0) CardOpenSays
   pub card_open_1 :
-      TellsOutcome (CardOpen.Post (three κ)) (1, card (stream (opened Start 0) []) tt)
+      TellsOutcome (CardOpenSays (three κ)) (1, card (stream (opened Start 0) []) tt)
       (record { answer = tt; exit = (1, card (stream (opened (Refused (refusal EditionRetired 0 0)) 1) []) tt) })
       (record { answer = tt; exit = (1, card (stream (opened Start 1) []) tt) })
   pub card_open_waiting :
-      TellsOutcome (CardOpen.Post (three κ)) (2, card (stream (state InBatch 2 no_sale) (ascii "CV")) tt)
+      TellsOutcome (CardOpenSays (three κ)) (2, card (stream (state InBatch 2 no_sale) (ascii "CV")) tt)
       (record { answer = tt; exit = (2, card (stream (opened Start 2) []) tt) })
       (record { answer = tt; exit = (2, card (stream (opened Start 2) (ascii "CV")) tt) })
   -- `lossivurn_card_stream_take`: a record cut in two judged by its second half; what comes behind the LF lost; of what waits the number kept, and not the bytes
-  pub card_take : OneKept (λ κs s. left s.0 s.1.0 s.1.1.0) CardTake.Post
+  pub card_take : OneKept (λ κs s. left s.0 s.1.0 s.1.1.0) CardTakeSays
   pub card_take_half :
-      TellsOutcome (CardTake.Post (four κ)) (card (stream (state InBatch 2 no_sale) (take 100 sale)) (lent (drop 100 sale ++ ascii "\r\n"), tt))
+      TellsOutcome (CardTakeSays (four κ)) (card (stream (state InBatch 2 no_sale) (take 100 sale)) (lent (drop 100 sale ++ ascii "\r\n"), tt))
       (record { answer = tt; exit = (card (stream (state InBatch 3 one_sale) []) (lent (drop 100 sale ++ ascii "\r\n"), tt)) })
       (record { answer = tt; exit = (card (stream (state (Refused (refusal NoLineEnd 3 0)) 2 no_sale) []) (lent (drop 100 sale ++ ascii "\r\n"), tt)) })
   pub card_take_lost :
-      TellsOutcome (CardTake.Post (four κ)) (card (stream (state InBatch 2 no_sale) []) (lent (sale ++ ascii "\r\nL9"), tt))
+      TellsOutcome (CardTakeSays (four κ)) (card (stream (state InBatch 2 no_sale) []) (lent (sale ++ ascii "\r\nL9"), tt))
       (record { answer = tt; exit = (card (stream (state InBatch 3 one_sale) (ascii "L9")) (lent (sale ++ ascii "\r\nL9"), tt)) })
       (record { answer = tt; exit = (card (stream (state InBatch 3 one_sale) []) (lent (sale ++ ascii "\r\nL9"), tt)) })
   pub card_take_bytes :
-      TellsOutcome (CardTake.Post (four κ)) (card (stream (state InBatch 2 no_sale) []) (lent (sale ++ ascii "\r\nL9"), tt))
+      TellsOutcome (CardTakeSays (four κ)) (card (stream (state InBatch 2 no_sale) []) (lent (sale ++ ascii "\r\nL9"), tt))
       (record { answer = tt; exit = (card (stream (state InBatch 3 one_sale) (ascii "L9")) (lent (sale ++ ascii "\r\nL9"), tt)) })
       (record { answer = tt; exit = (all (without_bytes (card_kept (stream (state InBatch 3 one_sale) (ascii "L9")))) (lent (sale ++ ascii "\r\nL9"), tt)) })
   -- `lossivurn_card_stream_end`: an unfinished record let go; a file that ends too early accepted
-  pub card_end : OneKept (λ κs s. left s.0 s.1.0 s.1.1.0) CardEnd.Post
+  pub card_end : OneKept (λ κs s. left s.0 s.1.0 s.1.1.0) CardEndSays
   pub card_end_held :
-      TellsOutcome (CardEnd.Post (three κ)) (card (stream (state Ended 5 one_sale) (ascii "x")) tt)
+      TellsOutcome (CardEndSays (three κ)) (card (stream (state Ended 5 one_sale) (ascii "x")) tt)
       (record { answer = tt; exit = (card (stream (state (Refused (refusal BytesAfterTheEnd 6 0)) 5 one_sale) []) tt) })
       (record { answer = tt; exit = (card (stream (state Closed 5 one_sale) []) tt) })
   pub card_end_early :
-      TellsOutcome (CardEnd.Post (three κ)) (card (stream (state InBatch 3 one_sale) []) tt)
+      TellsOutcome (CardEndSays (three κ)) (card (stream (state InBatch 3 one_sale) []) tt)
       (record { answer = tt; exit = (card (stream (state (Refused (refusal EndsTooEarly 4 0)) 3 one_sale) []) tt) })
       (record { answer = tt; exit = (card (stream (state Closed 3 one_sale) []) tt) })
   -- `lossivurn_card_stream_answer`: accepted before the end; accepted though a byte came behind the end
-  pub card_answer_lem : OneOutcome (λ κs s. s.1.1.1.0.now) CardAnswer.Post
+  pub card_answer_lem : OneOutcome (λ κs s. s.1.1.1.0.now) CardAnswerSays
   pub card_answer_early :
-      TellsOutcome (CardAnswer.Post (three κ)) (asked (card_kept (stream (state Ended 5 one_sale) [])) (lent_mut (replicate 20 0), tt))
+      TellsOutcome (CardAnswerSays (three κ)) (asked (card_kept (stream (state Ended 5 one_sale) [])) (lent_mut (replicate 20 0), tt))
       (record { answer = tt; exit = (asked (card_kept (stream (state Ended 5 one_sale) [])) (lent_mut (card_numbers card_goes_on), tt)) })
       (record { answer = tt; exit = (asked (card_kept (stream (state Ended 5 one_sale) [])) (lent_mut (card_numbers (accepted 5 0 one_sale)), tt)) })
   pub card_answer_behind :
-      TellsOutcome (CardAnswer.Post (three κ)) (asked (card_kept (stream (state Closed 5 one_sale) (ascii "x"))) (lent_mut (replicate 20 0), tt))
+      TellsOutcome (CardAnswerSays (three κ)) (asked (card_kept (stream (state Closed 5 one_sale) (ascii "x"))) (lent_mut (replicate 20 0), tt))
       (record { answer = tt; exit = (asked (card_kept (stream (state Closed 5 one_sale) (ascii "x"))) (lent_mut (card_numbers (card_refused (refusal BytesAfterTheEnd 6 0))), tt)) })
       (record { answer = tt; exit = (asked (card_kept (stream (state Closed 5 one_sale) (ascii "x"))) (lent_mut (card_numbers (accepted 5 0 one_sale)), tt)) })
   -- `lossivurn_payroll_stream_open`: accepted before anything has come; bytes of the file before left waiting
-  pub payroll_open : OneKept (λ κs s. left s.0 s.1.0 s.1.1.0) PayrollOpen.Post
+  pub payroll_open : OneKept (λ κs s. left s.0 s.1.0 s.1.1.0) PayrollOpenSays
   pub payroll_open_answered :
-      TellsOutcome (PayrollOpen.Post (three κ)) (payroll (payroll_stream (payroll_state AtEnd 5 3 1 10000) [] (Answered (paid 1 10000))) tt)
+      TellsOutcome (PayrollOpenSays (three κ)) (payroll (payroll_stream (payroll_state AtEnd 5 3 1 10000) [] (Answered (paid 1 10000))) tt)
       (record { answer = tt; exit = (payroll (payroll_stream (payroll_opened AtStart) [] GoingOn) tt) })
       (record { answer = tt; exit = (payroll (payroll_stream (payroll_opened AtStart) [] (Answered (paid 1 10000))) tt) })
   pub payroll_open_waiting :
-      TellsOutcome (PayrollOpen.Post (three κ)) (payroll (payroll_stream (payroll_state In 2 1 0 0) (ascii "42") GoingOn) tt)
+      TellsOutcome (PayrollOpenSays (three κ)) (payroll (payroll_stream (payroll_state In 2 1 0 0) (ascii "42") GoingOn) tt)
       (record { answer = tt; exit = (payroll (payroll_stream (payroll_opened AtStart) [] GoingOn) tt) })
       (record { answer = tt; exit = (payroll (payroll_stream (payroll_opened AtStart) (ascii "42") GoingOn) tt) })
   -- `lossivurn_payroll_stream_take`: a record cut in two judged by its second half; bytes behind an accepted end passed over; of what waits the number kept, and not the bytes
-  pub payroll_take : OneKept (λ κs s. left s.0 s.1.0 s.1.1.0) PayrollTake.Post
+  pub payroll_take : OneKept (λ κs s. left s.0 s.1.0 s.1.1.0) PayrollTakeSays
   pub payroll_take_half :
-      TellsOutcome (PayrollTake.Post (four κ)) (payroll (payroll_stream (payroll_state In 2 1 0 0) (take 100 payment) GoingOn) (lent (drop 100 payment ++ ascii "\r\n"), tt))
+      TellsOutcome (PayrollTakeSays (four κ)) (payroll (payroll_stream (payroll_state In 2 1 0 0) (take 100 payment) GoingOn) (lent (drop 100 payment ++ ascii "\r\n"), tt))
       (record { answer = tt; exit = (payroll (payroll_stream (payroll_state BehindA 3 2 1 10000) [] GoingOn) (lent (drop 100 payment ++ ascii "\r\n"), tt)) })
       (record { answer = tt; exit = (payroll (payroll_stream (payroll_state (Stopped (refusal WrongWidth 3 0)) 2 1 0 0) [] GoingOn) (lent (drop 100 payment ++ ascii "\r\n"), tt)) })
   pub payroll_take_behind :
-      TellsOutcome (PayrollTake.Post (four κ)) (payroll (payroll_stream (payroll_state AtEnd 5 3 1 10000) [] (Answered (paid 1 10000))) (lent (ascii "x"), tt))
+      TellsOutcome (PayrollTakeSays (four κ)) (payroll (payroll_stream (payroll_state AtEnd 5 3 1 10000) [] (Answered (paid 1 10000))) (lent (ascii "x"), tt))
       (record { answer = tt; exit = (payroll (payroll_stream (payroll_state AtEnd 5 3 1 10000) [] (Answered (refused (refusal BytesAfterTheEnd 6 0)))) (lent (ascii "x"), tt)) })
       (record { answer = tt; exit = (payroll (payroll_stream (payroll_state AtEnd 5 3 1 10000) [] (Answered (paid 1 10000))) (lent (ascii "x"), tt)) })
   pub payroll_take_bytes :
-      TellsOutcome (PayrollTake.Post (four κ)) (payroll (payroll_stream (payroll_state In 2 1 0 0) [] GoingOn) (lent (ascii "x"), tt))
+      TellsOutcome (PayrollTakeSays (four κ)) (payroll (payroll_stream (payroll_state In 2 1 0 0) [] GoingOn) (lent (ascii "x"), tt))
       (record { answer = tt; exit = (payroll (payroll_stream (payroll_state In 2 1 0 0) (ascii "x") GoingOn) (lent (ascii "x"), tt)) })
       (record { answer = tt; exit = (all (without_bytes (payroll_kept (payroll_stream (payroll_state In 2 1 0 0) (ascii "x") GoingOn))) (lent (ascii "x"), tt)) })
   -- `lossivurn_payroll_stream_end`: a file that ends too early accepted; what waits let go
-  pub payroll_end : OneKept (λ κs s. left s.0 s.1.0 s.1.1.0) PayrollEnd.Post
+  pub payroll_end : OneKept (λ κs s. left s.0 s.1.0 s.1.1.0) PayrollEndSays
   pub payroll_end_early :
-      TellsOutcome (PayrollEnd.Post (three κ)) (payroll (payroll_stream (payroll_state BehindA 3 2 1 10000) [] GoingOn) tt)
+      TellsOutcome (PayrollEndSays (three κ)) (payroll (payroll_stream (payroll_state BehindA 3 2 1 10000) [] GoingOn) tt)
       (record { answer = tt; exit = (payroll (payroll_stream (payroll_state BehindA 3 2 1 10000) [] (Answered (refused (refusal EndsTooEarly 4 0)))) tt) })
       (record { answer = tt; exit = (payroll (payroll_stream (payroll_state BehindA 3 2 1 10000) [] (Answered (paid 1 10000))) tt) })
   pub payroll_end_held :
-      TellsOutcome (PayrollEnd.Post (three κ)) (payroll (payroll_stream (payroll_state AtEnd 5 3 1 10000) (ascii "x") GoingOn) tt)
+      TellsOutcome (PayrollEndSays (three κ)) (payroll (payroll_stream (payroll_state AtEnd 5 3 1 10000) (ascii "x") GoingOn) tt)
       (record { answer = tt; exit = (payroll (payroll_stream (payroll_state AtEnd 5 3 1 10000) (ascii "x") (Answered (refused (refusal BytesAfterTheEnd 6 0)))) tt) })
       (record { answer = tt; exit = (payroll (payroll_stream (payroll_state AtEnd 5 3 1 10000) (ascii "x") (Answered (paid 1 10000))) tt) })
   -- `lossivurn_payroll_stream_answer`: accepted before the end; a refusal that shows only at the end
-  pub payroll_answer_lem : OneOutcome (λ κs s. s.1.1.1.0.now) PayrollAnswer.Post
+  pub payroll_answer_lem : OneOutcome (λ κs s. s.1.1.1.0.now) PayrollAnswerSays
   pub payroll_answer_early :
-      TellsOutcome (PayrollAnswer.Post (three κ)) (asked (payroll_kept (payroll_stream (payroll_state AtEnd 5 3 1 10000) [] GoingOn)) (lent_mut (replicate 8 0), tt))
+      TellsOutcome (PayrollAnswerSays (three κ)) (asked (payroll_kept (payroll_stream (payroll_state AtEnd 5 3 1 10000) [] GoingOn)) (lent_mut (replicate 8 0), tt))
       (record { answer = tt; exit = (asked (payroll_kept (payroll_stream (payroll_state AtEnd 5 3 1 10000) [] GoingOn)) (lent_mut (progress_numbers GoingOn), tt)) })
       (record { answer = tt; exit = (asked (payroll_kept (payroll_stream (payroll_state AtEnd 5 3 1 10000) [] GoingOn)) (lent_mut (progress_numbers (Answered (paid 1 10000))), tt)) })
   pub payroll_answer_late :
-      TellsOutcome (PayrollAnswer.Post (three κ)) (asked (payroll_kept (payroll_stream (payroll_state (Stopped (refusal WrongWidth 3 0)) 2 1 0 0) [] GoingOn)) (lent_mut (replicate 8 0), tt))
+      TellsOutcome (PayrollAnswerSays (three κ)) (asked (payroll_kept (payroll_stream (payroll_state (Stopped (refusal WrongWidth 3 0)) 2 1 0 0) [] GoingOn)) (lent_mut (replicate 8 0), tt))
       (record { answer = tt; exit = (asked (payroll_kept (payroll_stream (payroll_state (Stopped (refusal WrongWidth 3 0)) 2 1 0 0) [] GoingOn)) (lent_mut (progress_numbers (Answered (refused (refusal WrongWidth 3 0)))), tt)) })
       (record { answer = tt; exit = (asked (payroll_kept (payroll_stream (payroll_state (Stopped (refusal WrongWidth 3 0)) 2 1 0 0) [] GoingOn)) (lent_mut (progress_numbers GoingOn), tt)) })

@@ -19,15 +19,41 @@ use Rattle.answers.specs.PayrollFile.{state as payroll_state, opened as payroll_
 use Rattle.answers.specs.StateNumbers.{feeding}
 use Rattle.answers.specs.Samples.{sale, payment}
 use base.Fml.{Lft}
-use Rattle.c_records.proofs.card.lossivurn_card_open.Reads as CardOpen
-use Rattle.c_records.proofs.card.lossivurn_card_feed.Reads as CardFeed
-use Rattle.c_records.proofs.card.lossivurn_card_close.Reads as CardClose
-use Rattle.c_records.proofs.card.lossivurn_card_answer.Reads as CardAnswer
-use Rattle.c_records.proofs.payroll.lossivurn_payroll_open.Reads as PayrollOpen
-use Rattle.c_records.proofs.payroll.lossivurn_payroll_feed.Reads as PayrollFeed
-use Rattle.c_records.proofs.payroll.lossivurn_payroll_close.Reads as PayrollClose
-use Rattle.c_records.proofs.payroll.lossivurn_payroll_answer.Reads as PayrollAnswer
-use Rattle.answers.specs.Held.{OneOutcome, TellsOutcome, lent, lent_mut, one, two}
+use Rattle.c_records.specs.contracts.card.lossivurn_card_open as CardOpen
+use Rattle.c_records.specs.contracts.card.lossivurn_card_feed as CardFeed
+use Rattle.c_records.specs.contracts.card.lossivurn_card_close as CardClose
+use Rattle.c_records.specs.contracts.card.lossivurn_card_answer as CardAnswer
+use Rattle.c_records.specs.contracts.payroll.lossivurn_payroll_open as PayrollOpen
+use Rattle.c_records.specs.contracts.payroll.lossivurn_payroll_feed as PayrollFeed
+use Rattle.c_records.specs.contracts.payroll.lossivurn_payroll_close as PayrollClose
+use Rattle.c_records.specs.contracts.payroll.lossivurn_payroll_answer as PayrollAnswer
+use borrow.Fn.Read.{r_last}
+use Rattle.answers.specs.Held.{Claim, fact_of, logic, memory, run, OneOutcome, TellsOutcome, lent, lent_mut, one, two}
+
+-- what each contract says
+abbrev CardOpenSays : Claim CardOpen.ended
+CardOpenSays κs a r s = fact_of ((CardOpen.clauses logic memory run κs a).ensures tt r s) (r_last _)
+
+abbrev CardFeedSays : Claim CardFeed.ended
+CardFeedSays κs a r s = fact_of ((CardFeed.clauses logic memory run κs a).ensures tt r s) (r_last _)
+
+abbrev CardCloseSays : Claim CardClose.ended
+CardCloseSays κs a r s = fact_of ((CardClose.clauses logic memory run κs a).ensures tt r s) (r_last _)
+
+abbrev CardAnswerSays : Claim CardAnswer.ended
+CardAnswerSays κs a r s = fact_of ((CardAnswer.clauses logic memory run κs a).ensures tt r s) (r_last _)
+
+abbrev PayrollOpenSays : Claim PayrollOpen.ended
+PayrollOpenSays κs a r s = fact_of ((PayrollOpen.clauses logic memory run κs a).ensures tt r s) (r_last _)
+
+abbrev PayrollFeedSays : Claim PayrollFeed.ended
+PayrollFeedSays κs a r s = fact_of ((PayrollFeed.clauses logic memory run κs a).ensures tt r s) (r_last _)
+
+abbrev PayrollCloseSays : Claim PayrollClose.ended
+PayrollCloseSays κs a r s = fact_of ((PayrollClose.clauses logic memory run κs a).ensures tt r s) (r_last _)
+
+abbrev PayrollAnswerSays : Claim PayrollAnswer.ended
+PayrollAnswerSays κs a r s = fact_of ((PayrollAnswer.clauses logic memory run κs a).ensures tt r s) (r_last _)
 
 -- a state as a caller keeps it, lent to be changed
 abbrev card : Running → MutBor (List ℕ)
@@ -57,82 +83,82 @@ closed = feeding (payroll_state AtEnd 5 3 1 10000) (Answered (paid 1 10000))
 
 pub record CRecords (κ : Lft) : Type 0 where
   -- `lossivurn_card_open`: an edition cut down to a byte; the state of the file before left in place
-  pub card_open : OneOutcome (λ κs s. s.1.0.now) CardOpen.Post
+  pub card_open : OneOutcome (λ κs s. s.1.0.now) CardOpenSays
   pub card_open_258 :
-      TellsOutcome (CardOpen.Post (one κ)) (258, (unwritten 24, tt))
+      TellsOutcome (CardOpenSays (one κ)) (258, (unwritten 24, tt))
       (record { answer = tt; exit = (258, (card (opened (Refused (refusal EditionUnknown 0 0)) 258), tt)) })
       (record { answer = tt; exit = (258, (card (opened Start 258), tt)) })
   pub card_open_left :
-      TellsOutcome (CardOpen.Post (one κ)) (2, (card (state InBatch 3 one_sale), tt))
+      TellsOutcome (CardOpenSays (one κ)) (2, (card (state InBatch 3 one_sale), tt))
       (record { answer = tt; exit = (2, (card (opened Start 2), tt)) })
       (record { answer = tt; exit = (2, (card (state InBatch 3 one_sale), tt)) })
   -- `lossivurn_card_feed`: a state that stays as it was; a refused file that goes on
-  pub card_feed : OneOutcome (λ κs s. s.0.now) CardFeed.Post
+  pub card_feed : OneOutcome (λ κs s. s.0.now) CardFeedSays
   pub card_feed_left :
-      TellsOutcome (CardFeed.Post (two κ)) (card (state InBatch 2 no_sale), (lent sale, tt))
+      TellsOutcome (CardFeedSays (two κ)) (card (state InBatch 2 no_sale), (lent sale, tt))
       (record { answer = tt; exit = (card (state InBatch 3 one_sale), (lent sale, tt)) })
       (record { answer = tt; exit = (card (state InBatch 2 no_sale), (lent sale, tt)) })
   pub card_feed_refused :
-      TellsOutcome (CardFeed.Post (two κ)) (card (state (Refused (refusal KindUnknown 3 1)) 2 no_sale), (lent sale, tt))
+      TellsOutcome (CardFeedSays (two κ)) (card (state (Refused (refusal KindUnknown 3 1)) 2 no_sale), (lent sale, tt))
       (record { answer = tt; exit = (card (state (Refused (refusal KindUnknown 3 1)) 2 no_sale), (lent sale, tt)) })
       (record { answer = tt; exit = (card (state InBatch 3 one_sale), (lent sale, tt)) })
   -- `lossivurn_card_close`: a file that ends too early accepted; a state that stays as it was
-  pub card_close : OneOutcome (λ κs s. s.0.now) CardClose.Post
+  pub card_close : OneOutcome (λ κs s. s.0.now) CardCloseSays
   pub card_close_early :
-      TellsOutcome (CardClose.Post (one κ)) (card (state InBatch 3 one_sale), tt)
+      TellsOutcome (CardCloseSays (one κ)) (card (state InBatch 3 one_sale), tt)
       (record { answer = tt; exit = (card (state (Refused (refusal EndsTooEarly 4 0)) 3 one_sale), tt) })
       (record { answer = tt; exit = (card (state Closed 3 one_sale), tt) })
   pub card_close_left :
-      TellsOutcome (CardClose.Post (one κ)) (card (state Ended 5 one_sale), tt)
+      TellsOutcome (CardCloseSays (one κ)) (card (state Ended 5 one_sale), tt)
       (record { answer = tt; exit = (card (state Closed 5 one_sale), tt) })
       (record { answer = tt; exit = (card (state Ended 5 one_sale), tt) })
   -- `lossivurn_card_answer`: accepted before the close; zeros taken for a file that goes on
-  pub card_answer_lem : OneOutcome (λ κs s. s.1.0.now) CardAnswer.Post
+  pub card_answer_lem : OneOutcome (λ κs s. s.1.0.now) CardAnswerSays
   pub card_answer_early :
-      TellsOutcome (CardAnswer.Post (two κ)) (card_asked (state Ended 5 one_sale), (unwritten 20, tt))
+      TellsOutcome (CardAnswerSays (two κ)) (card_asked (state Ended 5 one_sale), (unwritten 20, tt))
       (record { answer = tt; exit = (card_asked (state Ended 5 one_sale), (lent_mut (card_numbers card_goes_on), tt)) })
       (record { answer = tt; exit = (card_asked (state Ended 5 one_sale), (lent_mut (card_numbers (accepted 5 0 one_sale)), tt)) })
   pub card_answer_zeros :
-      TellsOutcome (CardAnswer.Post (two κ)) (lent (replicate 24 0), (unwritten 20, tt))
+      TellsOutcome (CardAnswerSays (two κ)) (lent (replicate 24 0), (unwritten 20, tt))
       (record { answer = tt; exit = (lent (replicate 24 0), (lent_mut (1 ∷ replicate 19 0), tt)) })
       (record { answer = tt; exit = (lent (replicate 24 0), (unwritten 20, tt)) })
   -- `lossivurn_payroll_open`: a record that has not come; the state of the file before left in place
-  pub payroll_open : OneOutcome (λ κs s. s.0.now) PayrollOpen.Post
+  pub payroll_open : OneOutcome (λ κs s. s.0.now) PayrollOpenSays
   pub payroll_open_counted :
-      TellsOutcome (PayrollOpen.Post (one κ)) (unwritten 20, tt)
+      TellsOutcome (PayrollOpenSays (one κ)) (unwritten 20, tt)
       (record { answer = tt; exit = (payroll (feeding (payroll_opened AtStart) GoingOn), tt) })
       (record { answer = tt; exit = (payroll (feeding (payroll_state AtStart 1 0 0 0) GoingOn), tt) })
   pub payroll_open_left :
-      TellsOutcome (PayrollOpen.Post (one κ)) (payroll closed, tt)
+      TellsOutcome (PayrollOpenSays (one κ)) (payroll closed, tt)
       (record { answer = tt; exit = (payroll (feeding (payroll_opened AtStart) GoingOn), tt) })
       (record { answer = tt; exit = (payroll closed, tt) })
   -- `lossivurn_payroll_feed`: a state that stays as it was; a record behind an accepted close passed over
-  pub payroll_feed : OneOutcome (λ κs s. s.0.now) PayrollFeed.Post
+  pub payroll_feed : OneOutcome (λ κs s. s.0.now) PayrollFeedSays
   pub payroll_feed_left :
-      TellsOutcome (PayrollFeed.Post (two κ)) (payroll (feeding (payroll_state In 2 1 0 0) GoingOn), (lent payment, tt))
+      TellsOutcome (PayrollFeedSays (two κ)) (payroll (feeding (payroll_state In 2 1 0 0) GoingOn), (lent payment, tt))
       (record { answer = tt; exit = (payroll (feeding (payroll_state BehindA 3 2 1 10000) GoingOn), (lent payment, tt)) })
       (record { answer = tt; exit = (payroll (feeding (payroll_state In 2 1 0 0) GoingOn), (lent payment, tt)) })
   pub payroll_feed_behind :
-      TellsOutcome (PayrollFeed.Post (two κ)) (payroll closed, (lent payment, tt))
+      TellsOutcome (PayrollFeedSays (two κ)) (payroll closed, (lent payment, tt))
       (record { answer = tt; exit = (payroll (feeding (payroll_state AtEnd 5 3 1 10000) (Answered (refused (refusal BytesAfterTheEnd 6 0)))), (lent payment, tt)) })
       (record { answer = tt; exit = (payroll closed, (lent payment, tt)) })
   -- `lossivurn_payroll_close`: the byte 1A optional; a state that stays as it was
-  pub payroll_close : OneOutcome (λ κs s. s.0.now) PayrollClose.Post
+  pub payroll_close : OneOutcome (λ κs s. s.0.now) PayrollCloseSays
   pub payroll_close_optional :
-      TellsOutcome (PayrollClose.Post (two κ)) (payroll ended, (lent [], tt))
+      TellsOutcome (PayrollCloseSays (two κ)) (payroll ended, (lent [], tt))
       (record { answer = tt; exit = (payroll (feeding (payroll_state AtEnd 5 3 1 10000) (Answered (refused (refusal EndsTooEarly 6 0)))), (lent [], tt)) })
       (record { answer = tt; exit = (payroll closed, (lent [], tt)) })
   pub payroll_close_left :
-      TellsOutcome (PayrollClose.Post (two κ)) (payroll ended, (lent (ascii "\u{1a}"), tt))
+      TellsOutcome (PayrollCloseSays (two κ)) (payroll ended, (lent (ascii "\u{1a}"), tt))
       (record { answer = tt; exit = (payroll closed, (lent (ascii "\u{1a}"), tt)) })
       (record { answer = tt; exit = (payroll ended, (lent (ascii "\u{1a}"), tt)) })
   -- `lossivurn_payroll_answer`: accepted before the close; a refusal that shows only at the close
-  pub payroll_answer_lem : OneOutcome (λ κs s. s.1.0.now) PayrollAnswer.Post
+  pub payroll_answer_lem : OneOutcome (λ κs s. s.1.0.now) PayrollAnswerSays
   pub payroll_answer_early :
-      TellsOutcome (PayrollAnswer.Post (two κ)) (payroll_asked ended, (unwritten 8, tt))
+      TellsOutcome (PayrollAnswerSays (two κ)) (payroll_asked ended, (unwritten 8, tt))
       (record { answer = tt; exit = (payroll_asked ended, (lent_mut (progress_numbers GoingOn), tt)) })
       (record { answer = tt; exit = (payroll_asked ended, (lent_mut (progress_numbers (Answered (paid 1 10000))), tt)) })
   pub payroll_answer_late :
-      TellsOutcome (PayrollAnswer.Post (two κ)) (payroll_asked (feeding (payroll_state (Stopped (refusal WrongWidth 3 0)) 2 1 0 0) GoingOn), (unwritten 8, tt))
+      TellsOutcome (PayrollAnswerSays (two κ)) (payroll_asked (feeding (payroll_state (Stopped (refusal WrongWidth 3 0)) 2 1 0 0) GoingOn), (unwritten 8, tt))
       (record { answer = tt; exit = (payroll_asked (feeding (payroll_state (Stopped (refusal WrongWidth 3 0)) 2 1 0 0) GoingOn), (lent_mut (progress_numbers (Answered (refused (refusal WrongWidth 3 0)))), tt)) })
       (record { answer = tt; exit = (payroll_asked (feeding (payroll_state (Stopped (refusal WrongWidth 3 0)) 2 1 0 0) GoingOn), (lent_mut (progress_numbers GoingOn), tt)) })

@@ -16,22 +16,69 @@ use Rattle.card_run.specs.declared.stage.Stage.TheVariants.{Start, BetweenBatche
 use Rattle.card_run.specs.declared.answer.CardAnswer.TheVariants.{GoingOn, Accepted, Refused as refused}
 use Rattle.card_run.specs.Running.{numbers_of}
 use Rattle.answers.specs.Totals.{amounts, settled, forecast}
-use Rattle.card_run.proofs.running.Running.open.Reads as Open
-use Rattle.card_run.proofs.running.Running.refused.Reads as RefusedAt
-use Rattle.card_run.proofs.running.Running.next_number.Reads as NextNumber
-use Rattle.card_run.proofs.running.Running.moved.Reads as Moved
-use Rattle.card_run.proofs.running.Running.late.Reads as Late
-use Rattle.card_run.proofs.adjusted.Adjusted.none.Reads as NoAdjustment
-use Rattle.card_run.proofs.adjusted.Adjusted.one_more.Reads as OneMore
-use Rattle.card_run.proofs.batch.OpenBatch.none.Reads as NoTransaction
-use Rattle.card_run.proofs.batch.OpenBatch.with_added.Reads as WithAdded
-use Rattle.card_run.proofs.batch.OpenBatch.with_taken.Reads as WithTaken
-use Rattle.card_run.proofs.batch.OpenBatch.sums_to.Reads as SumsTo
-use Rattle.card_run.proofs.running.Running.close.Reads as Close
-use Rattle.card_run.proofs.running.Running.answer.Reads as Answer
-use Rattle.card_run.proofs.stage.Stage.is_open.Reads as IsOpen
-use Rattle.card_run.proofs.stage.Stage.allows.Reads as Allows
-use Rattle.answers.specs.Held.{OneAnswer, Tells}
+use Rattle.card_run.specs.contracts.running.Running.open as Open
+use Rattle.card_run.specs.contracts.running.Running.refused as RefusedAt
+use Rattle.card_run.specs.contracts.running.Running.next_number as NextNumber
+use Rattle.card_run.specs.contracts.running.Running.moved as Moved
+use Rattle.card_run.specs.contracts.running.Running.late as Late
+use Rattle.card_run.specs.contracts.adjusted.Adjusted.none as NoAdjustment
+use Rattle.card_run.specs.contracts.adjusted.Adjusted.one_more as OneMore
+use Rattle.card_run.specs.contracts.batch.OpenBatch.none as NoTransaction
+use Rattle.card_run.specs.contracts.batch.OpenBatch.with_added as WithAdded
+use Rattle.card_run.specs.contracts.batch.OpenBatch.with_taken as WithTaken
+use Rattle.card_run.specs.contracts.batch.OpenBatch.sums_to as SumsTo
+use Rattle.card_run.specs.contracts.running.Running.close as Close
+use Rattle.card_run.specs.contracts.running.Running.answer as Answer
+use Rattle.card_run.specs.contracts.stage.Stage.is_open as IsOpen
+use Rattle.card_run.specs.contracts.stage.Stage.allows as Allows
+use borrow.Fn.Read.{r_last}
+use Rattle.answers.specs.Held.{Claim, fact_of, logic, memory, run, OneAnswer, Tells}
+
+-- what each contract says
+abbrev OpenSays : Claim Open.ended
+OpenSays κs a r s = fact_of ((Open.clauses logic memory run κs a).ensures tt r s) (r_last _)
+
+abbrev RefusedAtSays : Claim RefusedAt.ended
+RefusedAtSays κs a r s = fact_of ((RefusedAt.clauses logic memory run κs a).ensures tt r s) (r_last _)
+
+abbrev NextNumberSays : Claim NextNumber.ended
+NextNumberSays κs a r s = fact_of ((NextNumber.clauses logic memory run κs a).ensures tt r s) (r_last _)
+
+abbrev MovedSays : Claim Moved.ended
+MovedSays κs a r s = fact_of ((Moved.clauses logic memory run κs a).ensures tt r s) (r_last _)
+
+abbrev LateSays : Claim Late.ended
+LateSays κs a r s = fact_of ((Late.clauses logic memory run κs a).ensures tt r s) (r_last _)
+
+abbrev NoAdjustmentSays : Claim NoAdjustment.ended
+NoAdjustmentSays κs a r s = fact_of ((NoAdjustment.clauses logic memory run κs a).ensures tt r s) (r_last _)
+
+abbrev OneMoreSays : Claim OneMore.ended
+OneMoreSays κs a r s = fact_of ((OneMore.clauses logic memory run κs a).ensures tt r s) (r_last _)
+
+abbrev NoTransactionSays : Claim NoTransaction.ended
+NoTransactionSays κs a r s = fact_of ((NoTransaction.clauses logic memory run κs a).ensures tt r s) (r_last _)
+
+abbrev WithAddedSays : Claim WithAdded.ended
+WithAddedSays κs a r s = fact_of ((WithAdded.clauses logic memory run κs a).ensures tt r s) (r_last _)
+
+abbrev WithTakenSays : Claim WithTaken.ended
+WithTakenSays κs a r s = fact_of ((WithTaken.clauses logic memory run κs a).ensures tt r s) (r_last _)
+
+abbrev SumsToSays : Claim SumsTo.ended
+SumsToSays κs a r s = fact_of ((SumsTo.clauses logic memory run κs a).ensures tt r s) (r_last _)
+
+abbrev CloseSays : Claim Close.ended
+CloseSays κs a r s = fact_of ((Close.clauses logic memory run κs a).ensures tt r s) (r_last _)
+
+abbrev AnswerSays : Claim Answer.ended
+AnswerSays κs a r s = fact_of ((Answer.clauses logic memory run κs a).ensures tt r s) (r_last _)
+
+abbrev IsOpenSays : Claim IsOpen.ended
+IsOpenSays κs a r s = fact_of ((IsOpen.clauses logic memory run κs a).ensures tt r s) (r_last _)
+
+abbrev AllowsSays : Claim Allows.ended
+AllowsSays κs a r s = fact_of ((Allows.clauses logic memory run κs a).ensures tt r s) (r_last _)
 
 -- so many adjustments of one type, of such a net
 abbrev pub adjusted : ℕ → ℕ → Adjusted
@@ -91,69 +138,69 @@ opened stage edition =
 
 pub record CardRun : Type 0 where
   -- `Running::open`: an edition cut down to a byte, 258 to 2; edition 1 open, so that 22 comes at the close at the earliest; 1 for edition 1, and 22 for edition 3
-  pub opens : OneAnswer Open.Post
-  pub open_258 : Tells (Open.Post tt) (258, tt) (opened (Refused (refusal EditionUnknown 0 0)) 258) (opened Start 258)
-  pub open_1 : Tells (Open.Post tt) (1, tt) (opened (Refused (refusal EditionRetired 0 0)) 1) (opened Start 1)
-  pub open_unknown : Tells (Open.Post tt) (1, tt) (opened (Refused (refusal EditionRetired 0 0)) 1) (opened (Refused (refusal EditionUnknown 0 0)) 1)
-  pub open_3 : Tells (Open.Post tt) (3, tt) (opened (Refused (refusal EditionUnknown 0 0)) 3) (opened (Refused (refusal EditionRetired 0 0)) 3)
+  pub opens : OneAnswer OpenSays
+  pub open_258 : Tells (OpenSays tt) (258, tt) (opened (Refused (refusal EditionUnknown 0 0)) 258) (opened Start 258)
+  pub open_1 : Tells (OpenSays tt) (1, tt) (opened (Refused (refusal EditionRetired 0 0)) 1) (opened Start 1)
+  pub open_unknown : Tells (OpenSays tt) (1, tt) (opened (Refused (refusal EditionRetired 0 0)) 1) (opened (Refused (refusal EditionUnknown 0 0)) 1)
+  pub open_3 : Tells (OpenSays tt) (3, tt) (opened (Refused (refusal EditionUnknown 0 0)) 3) (opened (Refused (refusal EditionRetired 0 0)) 3)
   -- `Running::refused`: the record before told; the refusal forgotten
-  pub refuses : OneAnswer RefusedAt.Post
-  pub refused_before : Tells (RefusedAt.Post tt) (state InBatch 2 no_sale, (SequenceWrong, (194, tt))) (state (Refused (refusal SequenceWrong 3 194)) 2 no_sale) (state (Refused (refusal SequenceWrong 2 194)) 2 no_sale)
-  pub refused_forgotten : Tells (RefusedAt.Post tt) (state InBatch 2 no_sale, (SequenceWrong, (194, tt))) (state (Refused (refusal SequenceWrong 3 194)) 2 no_sale) (state InBatch 2 no_sale)
+  pub refuses : OneAnswer RefusedAtSays
+  pub refused_before : Tells (RefusedAtSays tt) (state InBatch 2 no_sale, (SequenceWrong, (194, tt))) (state (Refused (refusal SequenceWrong 3 194)) 2 no_sale) (state (Refused (refusal SequenceWrong 2 194)) 2 no_sale)
+  pub refused_forgotten : Tells (RefusedAtSays tt) (state InBatch 2 no_sale, (SequenceWrong, (194, tt))) (state (Refused (refusal SequenceWrong 3 194)) 2 no_sale) (state InBatch 2 no_sale)
   -- `Running::next_number`: the number of the last record; a number that wraps
-  pub next_number_lem : OneAnswer NextNumber.Post
-  pub next_number_last : Tells (NextNumber.Post tt) (state InBatch 2 no_sale, tt) 3 2
-  pub next_number_wraps : Tells (NextNumber.Post tt) (state InBatch 18446744073709551615 no_sale, tt) 18446744073709551615 0
+  pub next_number_lem : OneAnswer NextNumberSays
+  pub next_number_last : Tells (NextNumberSays tt) (state InBatch 2 no_sale, tt) 3 2
+  pub next_number_wraps : Tells (NextNumberSays tt) (state InBatch 18446744073709551615 no_sale, tt) 18446744073709551615 0
   -- `Running::moved`: the stage kept; the numbers kept; the open batch kept
-  pub moved : OneAnswer Moved.Post
-  pub moved_stage : Tells (Moved.Post tt) (state InBatch 3 one_sale, (Ended, (numbers 3 0 one_sale, (batch 1 10000, tt)))) (state Ended 3 one_sale) (state InBatch 3 one_sale)
-  pub moved_numbers : Tells (Moved.Post tt) (state InBatch 2 one_sale, (InBatch, (numbers 3 0 one_sale, (batch 1 10000, tt)))) (state InBatch 3 one_sale) (state InBatch 2 one_sale)
-  pub moved_batch : Tells (Moved.Post tt) (state InBatch 3 one_sale, (InBatch, (numbers 3 0 no_sale, (batch 0 0, tt)))) (state InBatch 3 no_sale) (record { stage = InBatch; edition = 2; numbers = numbers 3 0 no_sale; batch = batch 1 10000 })
+  pub moved : OneAnswer MovedSays
+  pub moved_stage : Tells (MovedSays tt) (state InBatch 3 one_sale, (Ended, (numbers 3 0 one_sale, (batch 1 10000, tt)))) (state Ended 3 one_sale) (state InBatch 3 one_sale)
+  pub moved_numbers : Tells (MovedSays tt) (state InBatch 2 one_sale, (InBatch, (numbers 3 0 one_sale, (batch 1 10000, tt)))) (state InBatch 3 one_sale) (state InBatch 2 one_sale)
+  pub moved_batch : Tells (MovedSays tt) (state InBatch 3 one_sale, (InBatch, (numbers 3 0 no_sale, (batch 0 0, tt)))) (state InBatch 3 no_sale) (record { stage = InBatch; edition = 2; numbers = numbers 3 0 no_sale; batch = batch 1 10000 })
   -- `Running::late`: bytes behind A9 passed over; a refused file refused anew
-  pub late : OneAnswer Late.Post
-  pub late_behind_a9 : Tells (Late.Post tt) (state Ended 5 one_sale, tt) (state (Refused (refusal BytesAfterTheEnd 6 0)) 5 one_sale) (state Ended 5 one_sale)
-  pub late_refused : Tells (Late.Post tt) (state (Refused (refusal SequenceWrong 3 194)) 5 one_sale, tt) (state (Refused (refusal SequenceWrong 3 194)) 5 one_sale) (state (Refused (refusal BytesAfterTheEnd 6 0)) 5 one_sale)
+  pub late : OneAnswer LateSays
+  pub late_behind_a9 : Tells (LateSays tt) (state Ended 5 one_sale, tt) (state (Refused (refusal BytesAfterTheEnd 6 0)) 5 one_sale) (state Ended 5 one_sale)
+  pub late_refused : Tells (LateSays tt) (state (Refused (refusal SequenceWrong 3 194)) 5 one_sale, tt) (state (Refused (refusal SequenceWrong 3 194)) 5 one_sale) (state (Refused (refusal BytesAfterTheEnd 6 0)) 5 one_sale)
   -- `Adjusted::none`: an adjustment that has not come, a net that has not; `Adjusted::one_more`: the net forgotten, a count that wraps
-  pub no_adjustment_lem : OneAnswer NoAdjustment.Post
-  pub no_adjustment_one : Tells (NoAdjustment.Post tt) tt (adjusted 0 0) (adjusted 1 0)
-  pub no_adjustment_net : Tells (NoAdjustment.Post tt) tt (adjusted 0 0) (adjusted 0 975)
-  pub one_more : OneAnswer OneMore.Post
-  pub one_more_forgotten : Tells (OneMore.Post tt) (adjusted 1 975, (25, tt)) (adjusted 2 1000) (adjusted 2 25)
-  pub one_more_wraps : Tells (OneMore.Post tt) (adjusted 18446744073709551615 0, (1, tt)) (adjusted 18446744073709551615 1) (adjusted 0 1)
+  pub no_adjustment_lem : OneAnswer NoAdjustmentSays
+  pub no_adjustment_one : Tells (NoAdjustmentSays tt) tt (adjusted 0 0) (adjusted 1 0)
+  pub no_adjustment_net : Tells (NoAdjustmentSays tt) tt (adjusted 0 0) (adjusted 0 975)
+  pub one_more : OneAnswer OneMoreSays
+  pub one_more_forgotten : Tells (OneMoreSays tt) (adjusted 1 975, (25, tt)) (adjusted 2 1000) (adjusted 2 25)
+  pub one_more_wraps : Tells (OneMoreSays tt) (adjusted 18446744073709551615 0, (1, tt)) (adjusted 18446744073709551615 1) (adjusted 0 1)
   -- `OpenBatch::none`: a transaction that has not come; `OpenBatch::with_added`: the sum forgotten, a count that wraps
-  pub no_transaction_lem : OneAnswer NoTransaction.Post
-  pub no_transaction_one : Tells (NoTransaction.Post tt) tt (batch 0 0) (batch 1 0)
-  pub no_transaction_sum : Tells (NoTransaction.Post tt) tt (batch 0 0) (batch 0 10000)
-  pub with_added : OneAnswer WithAdded.Post
-  pub with_added_forgotten : Tells (WithAdded.Post tt) (batch 1 10000, (250, tt)) (batch 2 10250) (batch 2 250)
-  pub with_added_wraps : Tells (WithAdded.Post tt) (batch 18446744073709551615 0, (1, tt)) (batch 18446744073709551615 1) (batch 0 1)
+  pub no_transaction_lem : OneAnswer NoTransactionSays
+  pub no_transaction_one : Tells (NoTransactionSays tt) tt (batch 0 0) (batch 1 0)
+  pub no_transaction_sum : Tells (NoTransactionSays tt) tt (batch 0 0) (batch 0 10000)
+  pub with_added : OneAnswer WithAddedSays
+  pub with_added_forgotten : Tells (WithAddedSays tt) (batch 1 10000, (250, tt)) (batch 2 10250) (batch 2 250)
+  pub with_added_wraps : Tells (WithAddedSays tt) (batch 18446744073709551615 0, (1, tt)) (batch 18446744073709551615 1) (batch 0 1)
   -- `OpenBatch::with_taken`: a debit added; what is left cut off at zero
-  pub with_taken : OneAnswer WithTaken.Post
-  pub with_taken_added : Tells (WithTaken.Post tt) (batch 1 10000, (975, tt)) (batch_of 2 10000 975) (batch 2 10975)
-  pub with_taken_cut_off : Tells (WithTaken.Post tt) (batch 1 250, (975, tt)) (batch_of 2 250 975) (batch 2 0)
+  pub with_taken : OneAnswer WithTakenSays
+  pub with_taken_added : Tells (WithTakenSays tt) (batch 1 10000, (975, tt)) (batch_of 2 10000 975) (batch 2 10975)
+  pub with_taken_cut_off : Tells (WithTakenSays tt) (batch 1 250, (975, tt)) (batch_of 2 250 975) (batch 2 0)
   -- `OpenBatch::sums_to`: the absolute value of a sum below zero; such a sum cut off at zero; what is taken not looked at
-  pub sums_to_lem : OneAnswer SumsTo.Post
-  pub sums_to_absolute : Tells (SumsTo.Post tt) (batch_of 2 250 975, (725, tt)) false true
-  pub sums_to_zero : Tells (SumsTo.Post tt) (batch_of 2 250 975, (0, tt)) false true
-  pub sums_to_added : Tells (SumsTo.Post tt) (batch_of 2 10000 975, (10000, tt)) false true
+  pub sums_to_lem : OneAnswer SumsToSays
+  pub sums_to_absolute : Tells (SumsToSays tt) (batch_of 2 250 975, (725, tt)) false true
+  pub sums_to_zero : Tells (SumsToSays tt) (batch_of 2 250 975, (0, tt)) false true
+  pub sums_to_added : Tells (SumsToSays tt) (batch_of 2 10000 975, (10000, tt)) false true
   -- `Running::close`: a file closed in the middle of a batch; a closed file refused by a further close
-  pub close : OneAnswer Close.Post
-  pub close_in_batch : Tells (Close.Post tt) (state InBatch 3 one_sale, tt) (state (Refused (refusal EndsTooEarly 4 0)) 3 one_sale) (state Closed 3 one_sale)
-  pub close_again : Tells (Close.Post tt) (state Closed 5 one_sale, tt) (state Closed 5 one_sale) (state (Refused (refusal EndsTooEarly 6 0)) 5 one_sale)
+  pub close : OneAnswer CloseSays
+  pub close_in_batch : Tells (CloseSays tt) (state InBatch 3 one_sale, tt) (state (Refused (refusal EndsTooEarly 4 0)) 3 one_sale) (state Closed 3 one_sale)
+  pub close_again : Tells (CloseSays tt) (state Closed 5 one_sale, tt) (state Closed 5 one_sale) (state (Refused (refusal EndsTooEarly 6 0)) 5 one_sale)
   -- `Running::answer`: accepted before the close; the records counted as sales; a refused file's totals told; a forecast told as settled
-  pub answer : OneAnswer Answer.Post
-  pub answer_early : Tells (Answer.Post tt) (state Ended 5 one_sale, tt) GoingOn (accepted 5 0 one_sale)
-  pub answer_sales : Tells (Answer.Post tt) (state Closed 5 one_sale, tt) (accepted 5 0 one_sale) (accepted 5 0 (settled 5 (amounts 10000 250 9750)))
-  pub answer_refused : Tells (Answer.Post tt) (state (Refused (refusal SequenceWrong 4 194)) 3 one_sale, tt) (refused (refusal SequenceWrong 4 194)) (accepted 3 0 one_sale)
-  pub answer_forecast : Tells (Answer.Post tt) (state Closed 5 one_forecast, tt) (accepted 5 0 one_forecast) (accepted 5 0 one_sale)
+  pub answer : OneAnswer AnswerSays
+  pub answer_early : Tells (AnswerSays tt) (state Ended 5 one_sale, tt) GoingOn (accepted 5 0 one_sale)
+  pub answer_sales : Tells (AnswerSays tt) (state Closed 5 one_sale, tt) (accepted 5 0 one_sale) (accepted 5 0 (settled 5 (amounts 10000 250 9750)))
+  pub answer_refused : Tells (AnswerSays tt) (state (Refused (refusal SequenceWrong 4 194)) 3 one_sale, tt) (refused (refusal SequenceWrong 4 194)) (accepted 3 0 one_sale)
+  pub answer_forecast : Tells (AnswerSays tt) (state Closed 5 one_forecast, tt) (accepted 5 0 one_forecast) (accepted 5 0 one_sale)
   -- `Stage::is_open`: open behind A9; shut at the start
-  pub is_open : OneAnswer IsOpen.Post
-  pub is_open_ended : Tells (IsOpen.Post tt) (Ended, tt) false true
-  pub is_open_start : Tells (IsOpen.Post tt) (Start, tt) true false
+  pub is_open : OneAnswer IsOpenSays
+  pub is_open_ended : Tells (IsOpenSays tt) (Ended, tt) false true
+  pub is_open_start : Tells (IsOpenSays tt) (Start, tt) true false
   -- `Stage::allows`: a sale between batches, an adjustment before L0, and none in a batch; no trailer in a batch; no header at the start
-  pub allows : OneAnswer Allows.Post
-  pub allows_adjustment : Tells (Allows.Post tt) (BetweenBatches, (Aj, tt)) false true
-  pub allows_no_adjustment : Tells (Allows.Post tt) (InBatch, (Aj, tt)) true false
-  pub allows_sale : Tells (Allows.Post tt) (BetweenBatches, (Cv, tt)) false true
-  pub allows_trailer : Tells (Allows.Post tt) (InBatch, (L9, tt)) true false
-  pub allows_header : Tells (Allows.Post tt) (Start, (A0, tt)) true false
+  pub allows : OneAnswer AllowsSays
+  pub allows_adjustment : Tells (AllowsSays tt) (BetweenBatches, (Aj, tt)) false true
+  pub allows_no_adjustment : Tells (AllowsSays tt) (InBatch, (Aj, tt)) true false
+  pub allows_sale : Tells (AllowsSays tt) (BetweenBatches, (Cv, tt)) false true
+  pub allows_trailer : Tells (AllowsSays tt) (InBatch, (L9, tt)) true false
+  pub allows_header : Tells (AllowsSays tt) (Start, (A0, tt)) true false

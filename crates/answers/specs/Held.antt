@@ -1,11 +1,39 @@
 -- What a contract is held to: one answer for each input, and wrong answers that it rules out.
--- As the toolchain makes it, a contract is a claim about lifetimes, arguments, an answer and the arguments at exit.
+-- As the toolchain makes it, a contract is a claim about lifetimes, arguments, an answer and the arguments at exit. Its clause is an assertion of the logic, and is read here, in
+-- the closed model, as the fact that it states.
 use Rattle.std.specs.Prelude.{ℕ, ◌≡◌, List}
 use contract.Lifetimes.{Lfts}
+use contract.Monad.{Fun}
 use base.Fml.{Lft}
+use base.Logic.{emp}
+use prog.Memory.{Memory}
+use prog.Routine.{Routine}
+use types.Logic.{Logic}
+use denote.Triple.Clauses.{Ended, AtExit}
+use borrow.Fn.World.{Pr, ArgsD, ResD, w₀}
+use borrow.Fn.Read.{ReadAt, no_know}
+use borrow.Fn.Claims.{AllOf}
 use Rattle.std.specs.Borrow.{Bor, MutBor}
 use Rattle.std.specs.declared.rt.LibcRuntime.{LibcRuntime}
 use Rattle.std.specs.declared.fs.File.{File}
+
+-- what a contract says of lifetimes, arguments, an answer and the arguments at exit
+abbrev pub Claim : Ended → Type 1
+Claim T = (κs : Lfts T.signature.lifetimes) → ArgsD T.signature κs → ResD T.signature κs → AtExit T κs → Type 0
+
+-- what the toolchain's contracts take, of the closed model
+abbrev pub logic : Logic w₀.𝓤
+logic = w₀.𝓛
+
+abbrev pub memory : Memory → Pr w₀
+memory = w₀.𝓜.mem
+
+abbrev pub run : Routine → Fun w₀.𝓤
+run = w₀.𝓡.returns
+
+-- the fact that a clause states
+abbrev pub fact_of : (clause : Pr w₀) → ReadAt w₀ (λ w. emp w.𝓤) no_know clause → Type 0
+fact_of clause read = AllOf read.owes
 
 -- "For any two answers that satisfy the statement, equality is proved"
 abbrev pub OneAnswer : {L : Type 0} {A R S : L → Type 0} → ((κs : L) → A κs → R κs → S κs → Type 0) → Type 0

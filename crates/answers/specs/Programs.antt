@@ -5,7 +5,6 @@ use Prim.Native.String.{String}
 use base.Fml.{Lft}
 use Rattle.std.specs.Borrow.{Bor}
 use Rattle.std.specs.contracts.fs.File.{the_row}
-use Rattle.std.proofs.fs.File.TheLaws.{the_row_laws}
 use Rattle.std.specs.contracts.fs.FileRead.TheImpl as FileRead
 use Rattle.text.specs.Literal.{ascii}
 use Rattle.refusal.specs.declared.Cause.TheVariants.{EditionUnknown, EditionRetired, SequenceWrong, WrongWidth, EndsTooEarly}
@@ -29,31 +28,84 @@ use Rattle.program.specs.declared.mistake.Failed.TheVariants.{Read as Reading}
 use Rattle.card_program.specs.declared.outcome.Outcome.TheVariants.{Answer, Mistake}
 use Rattle.payroll_program.specs.declared.outcome.PayrollOutcome.TheVariants.{Answer as answer_payroll, Mistake as mistake_payroll}
 use Rattle.sheet_program.specs.declared.read.SheetOutcome.TheVariants.{Read as read_sheet}
-use Rattle.program.proofs.argument.argument_of.Reads as ArgumentOf
-use Rattle.program.proofs.argument.read.Reads as ReadArgument
-use Rattle.program.proofs.argument.read_three.Reads as ReadThree
-use Rattle.card_program.proofs.outcome.is_decided.Reads as IsDecided
-use Rattle.card_program.proofs.outcome.is_accepted.Reads as IsAccepted
-use Rattle.card_program.proofs.outcome.outcome_at.Reads as OutcomeAt
+use Rattle.program.specs.contracts.argument.argument_of as ArgumentOf
+use Rattle.program.specs.contracts.argument.read as ReadArgument
+use Rattle.program.specs.contracts.argument.read_three as ReadThree
+use Rattle.card_program.specs.contracts.outcome.is_decided as IsDecided
+use Rattle.card_program.specs.contracts.outcome.is_accepted as IsAccepted
+use Rattle.card_program.specs.contracts.outcome.outcome_at as OutcomeAt
 use Rattle.card_program.specs.declared.verdict.Lines.TheVariants.{Sales}
-use Rattle.card_program.proofs.check.check.Reads as Check
-use Rattle.card_program.proofs.check.check_file.Reads as CheckFile
-use Rattle.card_program.proofs.work.work.Reads as Work
+use Rattle.card_program.specs.contracts.check.check as Check
+use Rattle.card_program.specs.contracts.check.check_file as CheckFile
+use Rattle.card_program.specs.contracts.work.work as Work
 use Rattle.card_copy.specs.declared.output.Output.TheVariants.{MaskedCopy, Adjustments}
-use Rattle.card_copy.proofs.work.work.Reads as Copy
-use Rattle.sheet_program.proofs.work.work.Reads as Write
-use Rattle.sheet_program.proofs.read.read.Reads as ReadSheet
-use Rattle.sheet_program.proofs.convert.convert.Reads as ConvertSheet
-use Rattle.payroll_program.proofs.outcome.is_decided.Reads as IsDecidedPayroll
-use Rattle.payroll_program.proofs.outcome.outcome_at.Reads as PayrollOutcomeAt
-use Rattle.payroll_program.proofs.check.check.Reads as CheckPayroll
-use Rattle.payroll_program.proofs.check.check_file.Reads as CheckPayrollFile
-use Rattle.answers.specs.Held.{OneAnswer, Tells, Runtime, Opened, lent, lent_mut, two, three, four}
+use Rattle.card_copy.specs.contracts.work.work as Copy
+use Rattle.sheet_program.specs.contracts.work.work as Write
+use Rattle.sheet_program.specs.contracts.read.read as ReadSheet
+use Rattle.sheet_program.specs.contracts.convert.convert as ConvertSheet
+use Rattle.payroll_program.specs.contracts.outcome.is_decided as IsDecidedPayroll
+use Rattle.payroll_program.specs.contracts.outcome.outcome_at as PayrollOutcomeAt
+use Rattle.payroll_program.specs.contracts.check.check as CheckPayroll
+use Rattle.payroll_program.specs.contracts.check.check_file as CheckPayrollFile
+use borrow.Fn.Read.{r_last}
+use Rattle.answers.specs.Held.{Claim, fact_of, logic, memory, run, OneAnswer, Tells, Runtime, Opened, lent, lent_mut, two, three, four}
 use Rattle.answers.specs.Samples.{at, sale, card_file}
 use Rattle.answers.specs.Totals.{amounts, settled}
 use Rattle.answers.specs.CardRun.{refusal, one_sale, accepted}
 use Rattle.answers.specs.Texts.{eleven_lines}
 use Rattle.answers.specs.DaySheet.{sheet_of, both_sets}
+
+-- what each contract says
+abbrev ArgumentOfSays : Claim ArgumentOf.ended
+ArgumentOfSays κs a r s = fact_of ((ArgumentOf.clauses logic memory run κs a).ensures tt r s) (r_last _)
+
+abbrev ReadArgumentSays : Claim ReadArgument.ended
+ReadArgumentSays κs a r s = fact_of ((ReadArgument.clauses logic memory run κs a).ensures tt r s) (r_last _)
+
+abbrev ReadThreeSays : Claim ReadThree.ended
+ReadThreeSays κs a r s = fact_of ((ReadThree.clauses logic memory run κs a).ensures tt r s) (r_last _)
+
+abbrev IsDecidedSays : Claim IsDecided.ended
+IsDecidedSays κs a r s = fact_of ((IsDecided.clauses logic memory run κs a).ensures tt r s) (r_last _)
+
+abbrev IsAcceptedSays : Claim IsAccepted.ended
+IsAcceptedSays κs a r s = fact_of ((IsAccepted.clauses logic memory run κs a).ensures tt r s) (r_last _)
+
+abbrev OutcomeAtSays : Claim OutcomeAt.ended
+OutcomeAtSays κs a r s = fact_of ((OutcomeAt.clauses logic memory run κs a).ensures tt r s) (r_last _)
+
+abbrev CheckSays : Claim (Check.ended the_row FileRead.ghosts FileRead.dict)
+CheckSays κs a r s = fact_of ((Check.clauses the_row FileRead.ghosts FileRead.dict logic memory run κs a).ensures tt r s) (r_last _)
+
+abbrev CheckFileSays : Claim CheckFile.ended
+CheckFileSays κs a r s = fact_of ((CheckFile.clauses logic memory run κs a).ensures tt r s) (r_last _)
+
+abbrev WorkSays : Claim (Work.ended the_row FileRead.ghosts FileRead.dict)
+WorkSays κs a r s = fact_of ((Work.clauses the_row FileRead.ghosts FileRead.dict logic memory run κs a).ensures tt r s) (r_last _)
+
+abbrev CopySays : Claim Copy.ended
+CopySays κs a r s = fact_of ((Copy.clauses logic memory run κs a).ensures tt r s) (r_last _)
+
+abbrev WriteSays : Claim Write.ended
+WriteSays κs a r s = fact_of ((Write.clauses logic memory run κs a).ensures tt r s) (r_last _)
+
+abbrev ReadSheetSays : Claim ReadSheet.ended
+ReadSheetSays κs a r s = fact_of ((ReadSheet.clauses logic memory run κs a).ensures tt r s) (r_last _)
+
+abbrev ConvertSheetSays : Claim ConvertSheet.ended
+ConvertSheetSays κs a r s = fact_of ((ConvertSheet.clauses logic memory run κs a).ensures tt r s) (r_last _)
+
+abbrev IsDecidedPayrollSays : Claim IsDecidedPayroll.ended
+IsDecidedPayrollSays κs a r s = fact_of ((IsDecidedPayroll.clauses logic memory run κs a).ensures tt r s) (r_last _)
+
+abbrev PayrollOutcomeAtSays : Claim PayrollOutcomeAt.ended
+PayrollOutcomeAtSays κs a r s = fact_of ((PayrollOutcomeAt.clauses logic memory run κs a).ensures tt r s) (r_last _)
+
+abbrev CheckPayrollSays : Claim (CheckPayroll.ended the_row FileRead.ghosts FileRead.dict)
+CheckPayrollSays κs a r s = fact_of ((CheckPayroll.clauses the_row FileRead.ghosts FileRead.dict logic memory run κs a).ensures tt r s) (r_last _)
+
+abbrev CheckPayrollFileSays : Claim CheckPayrollFile.ended
+CheckPayrollFileSays κs a r s = fact_of ((CheckPayrollFile.clauses logic memory run κs a).ensures tt r s) (r_last _)
 
 -- an accepted file whose gross is neither discount nor net, and the refusals of an edition that is not known, and of one that is retired
 abbrev pub made_up : CardAnswer
@@ -79,65 +131,65 @@ pub record Programs (κ : Lft) (rt : Runtime) (file : Opened) : Type 0 where
   pub eleven_lines_lem : verdict_text Sales (check_of 2 card_file) ≡ ascii eleven_lines
   pub one_line : verdict_text Sales (check_of 2 (file_of (at 194 "000004" sale))) ≡ ascii "REFUSED 9 RECORD 3 COLUMN 194\n"
   -- `argument_of`: one that is too long taken for an empty one; any argument taken for one that is too long
-  pub argument_of_lem : OneAnswer ArgumentOf.Post
-  pub argument_of_long : Tells (ArgumentOf.Post tt) (0, (36, tt)) TooLong (given 0)
-  pub argument_of_whole : Tells (ArgumentOf.Post tt) (1, (0, tt)) (given 1) TooLong
+  pub argument_of_lem : OneAnswer ArgumentOfSays
+  pub argument_of_long : Tells (ArgumentOfSays tt) (0, (36, tt)) TooLong (given 0)
+  pub argument_of_whole : Tells (ArgumentOfSays tt) (1, (0, tt)) (given 1) TooLong
   -- `argument::read` and `read_three`: more bytes than there is room for
-  pub argument_room : Tells (ReadArgument.Post (two κ)) (rt, (1, (lent_mut (ascii "2"), tt))) (given 1) (given 2)
+  pub argument_room : Tells (ReadArgumentSays (two κ)) (rt, (1, (lent_mut (ascii "2"), tt))) (given 1) (given 2)
   pub three_room :
-      Tells (ReadThree.Post (four κ)) (rt, (lent_mut (ascii "2"), (lent_mut (ascii "ab"), (lent_mut (ascii "c"), tt)))) (three_given 1 2 1) (three_given 1 2 2)
+      Tells (ReadThreeSays (four κ)) (rt, (lent_mut (ascii "2"), (lent_mut (ascii "ab"), (lent_mut (ascii "c"), tt)))) (three_given 1 2 1) (three_given 1 2 2)
   -- `card_program::is_decided`: decided while the file goes on; a refusal that no further byte can change left open
-  pub decided : OneAnswer IsDecided.Post
-  pub decided_going_on : Tells (IsDecided.Post tt) (GoingOn, tt) false true
-  pub decided_refused : Tells (IsDecided.Post tt) (Refused (refusal SequenceWrong 3 194), tt) true false
+  pub decided : OneAnswer IsDecidedSays
+  pub decided_going_on : Tells (IsDecidedSays tt) (GoingOn, tt) false true
+  pub decided_refused : Tells (IsDecidedSays tt) (Refused (refusal SequenceWrong 3 194), tt) true false
   -- `is_accepted`: a refused file's OUT kept; a file that could not be read taken for accepted
-  pub accepts : OneAnswer IsAccepted.Post
-  pub accepts_refused : Tells (IsAccepted.Post tt) (Answer (Refused (refusal SequenceWrong 3 194)), tt) false true
-  pub accepts_mistake : Tells (IsAccepted.Post tt) (Mistake (System Reading 5), tt) false true
+  pub accepts : OneAnswer IsAcceptedSays
+  pub accepts_refused : Tells (IsAcceptedSays tt) (Answer (Refused (refusal SequenceWrong 3 194)), tt) false true
+  pub accepts_mistake : Tells (IsAcceptedSays tt) (Mistake (System Reading 5), tt) false true
   -- `outcome_at`: a failed read taken for the end; a verdict while the file goes on
-  pub outcome_at_lem : OneAnswer OutcomeAt.Post
-  pub outcome_failed : Tells (OutcomeAt.Post tt) (Failed 5, (open_of 2, tt)) (Mistake (System Reading 5)) (Answer (Refused (refusal EndsTooEarly 1 0)))
-  pub outcome_early : Tells (OutcomeAt.Post tt) (Bytes 9, (open_of 2, tt)) (Mistake (System Reading 0)) (Answer (Refused (refusal EndsTooEarly 1 0)))
+  pub outcome_at_lem : OneAnswer OutcomeAtSays
+  pub outcome_failed : Tells (OutcomeAtSays tt) (Failed 5, (open_of 2, tt)) (Mistake (System Reading 5)) (Answer (Refused (refusal EndsTooEarly 1 0)))
+  pub outcome_early : Tells (OutcomeAtSays tt) (Bytes 9, (open_of 2, tt)) (Mistake (System Reading 0)) (Answer (Refused (refusal EndsTooEarly 1 0)))
   -- `check`: totals that no file has; an edition that the program chose itself
-  pub check_totals : Tells (Check.Post the_row the_row_laws FileRead.ghosts FileRead.dict (two κ)) (2, (file, tt)) (Answer (accepted 5 1 one_sale)) (Answer made_up)
-  pub check_edition : Tells (Check.Post the_row the_row_laws FileRead.ghosts FileRead.dict (two κ)) (3, (file, tt)) (Answer unknown_edition) (Answer (accepted 5 1 one_sale))
+  pub check_totals : Tells (CheckSays (two κ)) (2, (file, tt)) (Answer (accepted 5 1 one_sale)) (Answer made_up)
+  pub check_edition : Tells (CheckSays (two κ)) (3, (file, tt)) (Answer unknown_edition) (Answer (accepted 5 1 one_sale))
   -- `check_file`: the same, of a card file and of a payroll file by its name
-  pub check_file_totals : Tells (CheckFile.Post (two κ)) (rt, (2, (lent (ascii "a"), tt))) (Answer (accepted 5 1 one_sale)) (Answer made_up)
-  pub check_file_edition : Tells (CheckFile.Post (two κ)) (rt, (3, (lent (ascii "a"), tt))) (Answer unknown_edition) (Answer (accepted 5 1 one_sale))
+  pub check_file_totals : Tells (CheckFileSays (two κ)) (rt, (2, (lent (ascii "a"), tt))) (Answer (accepted 5 1 one_sale)) (Answer made_up)
+  pub check_file_edition : Tells (CheckFileSays (two κ)) (rt, (3, (lent (ascii "a"), tt))) (Answer unknown_edition) (Answer (accepted 5 1 one_sale))
   pub check_file_amount :
-      Tells (CheckPayrollFile.Post (two κ)) (rt, (lent (ascii "a"), tt)) (answer_payroll (paid 5 10000)) (answer_payroll (paid 5 10000000000000000000))
-  pub check_file_records : Tells (CheckPayrollFile.Post (two κ)) (rt, (lent (ascii "a"), tt)) (answer_payroll (paid 5 10000)) (answer_payroll (paid 1000000 10000))
+      Tells (CheckPayrollFileSays (two κ)) (rt, (lent (ascii "a"), tt)) (answer_payroll (paid 5 10000)) (answer_payroll (paid 5 10000000000000000000))
+  pub check_file_records : Tells (CheckPayrollFileSays (two κ)) (rt, (lent (ascii "a"), tt)) (answer_payroll (paid 5 10000)) (answer_payroll (paid 1000000 10000))
   -- `work` of `card`, of `mask` and `adjustments`, and of `sheet`: always edition 2; edition 1 not known, or still read; a word that is no number taken for one; a number told as none
-  pub work_edition : Tells (Work.Post the_row the_row_laws FileRead.ghosts FileRead.dict (three κ)) (lent (ascii "3"), (file, tt)) (Answer unknown_edition) (Answer (accepted 5 1 one_sale))
-  pub work_retired : Tells (Work.Post the_row the_row_laws FileRead.ghosts FileRead.dict (three κ)) (lent (ascii "1"), (file, tt)) (Answer retired_edition) (Answer unknown_edition)
-  pub work_word : Tells (Work.Post the_row the_row_laws FileRead.ghosts FileRead.dict (three κ)) (lent (ascii "two"), (file, tt)) (Mistake EditionNoNumber) (Answer (accepted 5 1 one_sale))
-  pub work_number : Tells (Work.Post the_row the_row_laws FileRead.ghosts FileRead.dict (three κ)) (lent (ascii "2"), (file, tt)) (Answer (accepted 5 1 one_sale)) (Mistake EditionNoNumber)
-  pub mask_edition : Tells (Copy.Post (four κ)) (rt, (MaskedCopy, arguments "3")) (Answer unknown_edition) (Answer (accepted 5 1 one_sale))
-  pub mask_retired : Tells (Copy.Post (four κ)) (rt, (MaskedCopy, arguments "1")) (Answer retired_edition) (Answer (accepted 5 1 one_sale))
-  pub mask_word : Tells (Copy.Post (four κ)) (rt, (MaskedCopy, arguments "two")) (Mistake EditionNoNumber) (Answer (accepted 5 1 one_sale))
-  pub mask_totals : Tells (Copy.Post (four κ)) (rt, (MaskedCopy, arguments "2")) (Answer (accepted 5 1 one_sale)) (Answer made_up)
-  pub rows_edition : Tells (Copy.Post (four κ)) (rt, (Adjustments, arguments "3")) (Answer unknown_edition) (Answer (accepted 5 1 one_sale))
-  pub rows_word : Tells (Copy.Post (four κ)) (rt, (Adjustments, arguments "two")) (Mistake EditionNoNumber) (Answer (accepted 5 1 one_sale))
-  pub write_edition : Tells (Write.Post (four κ)) (rt, arguments "3") (Answer unknown_edition) (Answer (accepted 5 1 one_sale))
-  pub write_retired : Tells (Write.Post (four κ)) (rt, arguments "1") (Answer retired_edition) (Answer (accepted 5 1 one_sale))
-  pub write_word : Tells (Write.Post (four κ)) (rt, arguments "two") (Mistake EditionNoNumber) (Answer (accepted 5 1 one_sale))
-  pub write_totals : Tells (Write.Post (four κ)) (rt, arguments "2") (Answer (accepted 5 1 one_sale)) (Answer made_up)
+  pub work_edition : Tells (WorkSays (three κ)) (lent (ascii "3"), (file, tt)) (Answer unknown_edition) (Answer (accepted 5 1 one_sale))
+  pub work_retired : Tells (WorkSays (three κ)) (lent (ascii "1"), (file, tt)) (Answer retired_edition) (Answer unknown_edition)
+  pub work_word : Tells (WorkSays (three κ)) (lent (ascii "two"), (file, tt)) (Mistake EditionNoNumber) (Answer (accepted 5 1 one_sale))
+  pub work_number : Tells (WorkSays (three κ)) (lent (ascii "2"), (file, tt)) (Answer (accepted 5 1 one_sale)) (Mistake EditionNoNumber)
+  pub mask_edition : Tells (CopySays (four κ)) (rt, (MaskedCopy, arguments "3")) (Answer unknown_edition) (Answer (accepted 5 1 one_sale))
+  pub mask_retired : Tells (CopySays (four κ)) (rt, (MaskedCopy, arguments "1")) (Answer retired_edition) (Answer (accepted 5 1 one_sale))
+  pub mask_word : Tells (CopySays (four κ)) (rt, (MaskedCopy, arguments "two")) (Mistake EditionNoNumber) (Answer (accepted 5 1 one_sale))
+  pub mask_totals : Tells (CopySays (four κ)) (rt, (MaskedCopy, arguments "2")) (Answer (accepted 5 1 one_sale)) (Answer made_up)
+  pub rows_edition : Tells (CopySays (four κ)) (rt, (Adjustments, arguments "3")) (Answer unknown_edition) (Answer (accepted 5 1 one_sale))
+  pub rows_word : Tells (CopySays (four κ)) (rt, (Adjustments, arguments "two")) (Mistake EditionNoNumber) (Answer (accepted 5 1 one_sale))
+  pub write_edition : Tells (WriteSays (four κ)) (rt, arguments "3") (Answer unknown_edition) (Answer (accepted 5 1 one_sale))
+  pub write_retired : Tells (WriteSays (four κ)) (rt, arguments "1") (Answer retired_edition) (Answer (accepted 5 1 one_sale))
+  pub write_word : Tells (WriteSays (four κ)) (rt, arguments "two") (Mistake EditionNoNumber) (Answer (accepted 5 1 one_sale))
+  pub write_totals : Tells (WriteSays (four κ)) (rt, arguments "2") (Answer (accepted 5 1 one_sale)) (Answer made_up)
   -- `sheet_program::read`: a sheet of edition 3; one whose amounts disagree
-  pub sheet_edition_lem : Tells (ReadSheet.Post (two κ)) (rt, (lent (ascii "a"), tt)) (read_sheet (Read (sheet_of 2 9750))) (read_sheet (Read (sheet_of 3 9750)))
-  pub sheet_amounts : Tells (ReadSheet.Post (two κ)) (rt, (lent (ascii "a"), tt)) (read_sheet (Read (sheet_of 2 9750))) (read_sheet (Read (sheet_of 2 9751)))
+  pub sheet_edition_lem : Tells (ReadSheetSays (two κ)) (rt, (lent (ascii "a"), tt)) (read_sheet (Read (sheet_of 2 9750))) (read_sheet (Read (sheet_of 3 9750)))
+  pub sheet_amounts : Tells (ReadSheetSays (two κ)) (rt, (lent (ascii "a"), tt)) (read_sheet (Read (sheet_of 2 9750))) (read_sheet (Read (sheet_of 2 9751)))
   -- `sheet_program::convert`: a split that is told as known; a sheet of edition 3
   pub convert_split :
-      Tells (ConvertSheet.Post (three κ)) (rt, (lent (ascii "a"), (lent (ascii "b"), tt))) (read_sheet (Read (converted (sheet_of 2 9750)))) (read_sheet (Read both_sets))
+      Tells (ConvertSheetSays (three κ)) (rt, (lent (ascii "a"), (lent (ascii "b"), tt))) (read_sheet (Read (converted (sheet_of 2 9750)))) (read_sheet (Read both_sets))
   pub convert_edition :
-      Tells (ConvertSheet.Post (three κ)) (rt, (lent (ascii "a"), (lent (ascii "b"), tt))) (read_sheet (Read (converted (sheet_of 2 9750)))) (read_sheet (Read (converted (sheet_of 3 9750))))
+      Tells (ConvertSheetSays (three κ)) (rt, (lent (ascii "a"), (lent (ascii "b"), tt))) (read_sheet (Read (converted (sheet_of 2 9750)))) (read_sheet (Read (converted (sheet_of 3 9750))))
   -- `payroll_program::is_decided`: decided while the file goes on; a refusal left open
-  pub decided_payroll : OneAnswer IsDecidedPayroll.Post
-  pub decided_payroll_going_on : Tells (IsDecidedPayroll.Post tt) (going_on, tt) false true
-  pub decided_payroll_refused : Tells (IsDecidedPayroll.Post tt) (Answered (refused_payroll (refusal WrongWidth 3 0)), tt) true false
+  pub decided_payroll : OneAnswer IsDecidedPayrollSays
+  pub decided_payroll_going_on : Tells (IsDecidedPayrollSays tt) (going_on, tt) false true
+  pub decided_payroll_refused : Tells (IsDecidedPayrollSays tt) (Answered (refused_payroll (refusal WrongWidth 3 0)), tt) true false
   -- `payroll_program::outcome_at`: a failed read taken for the end; a verdict while the file goes on
-  pub payroll_at_lem : OneAnswer PayrollOutcomeAt.Post
-  pub payroll_failed : Tells (PayrollOutcomeAt.Post tt) (Failed 5, (open_payroll, tt)) (mistake_payroll (System Reading 5)) (answer_payroll (refused_payroll (refusal EndsTooEarly 1 0)))
-  pub payroll_early : Tells (PayrollOutcomeAt.Post tt) (Bytes 9, (open_payroll, tt)) (mistake_payroll (System Reading 0)) (answer_payroll (refused_payroll (refusal EndsTooEarly 1 0)))
+  pub payroll_at_lem : OneAnswer PayrollOutcomeAtSays
+  pub payroll_failed : Tells (PayrollOutcomeAtSays tt) (Failed 5, (open_payroll, tt)) (mistake_payroll (System Reading 5)) (answer_payroll (refused_payroll (refusal EndsTooEarly 1 0)))
+  pub payroll_early : Tells (PayrollOutcomeAtSays tt) (Bytes 9, (open_payroll, tt)) (mistake_payroll (System Reading 0)) (answer_payroll (refused_payroll (refusal EndsTooEarly 1 0)))
   -- `payroll_program::check`: an amount of 10^19; a million records
-  pub check_amount : Tells (CheckPayroll.Post the_row the_row_laws FileRead.ghosts FileRead.dict (two κ)) (file, tt) (answer_payroll (paid 5 10000)) (answer_payroll (paid 5 10000000000000000000))
-  pub check_records : Tells (CheckPayroll.Post the_row the_row_laws FileRead.ghosts FileRead.dict (two κ)) (file, tt) (answer_payroll (paid 5 10000)) (answer_payroll (paid 1000000 10000))
+  pub check_amount : Tells (CheckPayrollSays (two κ)) (file, tt) (answer_payroll (paid 5 10000)) (answer_payroll (paid 5 10000000000000000000))
+  pub check_records : Tells (CheckPayrollSays (two κ)) (file, tt) (answer_payroll (paid 5 10000)) (answer_payroll (paid 1000000 10000))

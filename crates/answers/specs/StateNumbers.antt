@@ -14,11 +14,25 @@ use Rattle.payroll_stream.specs.declared.feeding.Feeding.{Feeding}
 use Rattle.answers.specs.CardRun.{adjusted, numbers_with, batch, refusal, one_sale, one_forecast, opened}
 use Rattle.answers.specs.PayrollFile.{state, opened as payroll_opened, accepted}
 use base.Fml.{Lft}
-use Rattle.state_numbers.proofs.card.numbers.Reads as CardNumbers
-use Rattle.state_numbers.proofs.card.state_of.Reads as CardStateOf
-use Rattle.state_numbers.proofs.payroll.numbers.Reads as PayrollNumbers
-use Rattle.state_numbers.proofs.payroll.feeding_of.Reads as FeedingOf
-use Rattle.answers.specs.Held.{OneAnswer, Tells, lent, one}
+use Rattle.state_numbers.specs.contracts.card.numbers as CardNumbers
+use Rattle.state_numbers.specs.contracts.card.state_of as CardStateOf
+use Rattle.state_numbers.specs.contracts.payroll.numbers as PayrollNumbers
+use Rattle.state_numbers.specs.contracts.payroll.feeding_of as FeedingOf
+use borrow.Fn.Read.{r_last}
+use Rattle.answers.specs.Held.{Claim, fact_of, logic, memory, run, OneAnswer, Tells, lent, one}
+
+-- what each contract says
+abbrev CardNumbersSays : Claim CardNumbers.ended
+CardNumbersSays κs a r s = fact_of ((CardNumbers.clauses logic memory run κs a).ensures tt r s) (r_last _)
+
+abbrev CardStateOfSays : Claim CardStateOf.ended
+CardStateOfSays κs a r s = fact_of ((CardStateOf.clauses logic memory run κs a).ensures tt r s) (r_last _)
+
+abbrev PayrollNumbersSays : Claim PayrollNumbers.ended
+PayrollNumbersSays κs a r s = fact_of ((PayrollNumbers.clauses logic memory run κs a).ensures tt r s) (r_last _)
+
+abbrev FeedingOfSays : Claim FeedingOf.ended
+FeedingOfSays κs a r s = fact_of ((FeedingOf.clauses logic memory run κs a).ensures tt r s) (r_last _)
 
 -- a card file at a stage, behind a sale and a credit
 abbrev card_state : CardStage → TwoSets → CardRunning
@@ -62,20 +76,20 @@ refused_list number at = 6 ∷ 0 ∷ 0 ∷ 0 ∷ 0 ∷ 5 ∷ 1 ∷ 1 ∷ 10000 �
 
 pub record StateNumbers (κ : Lft) : Type 0 where
   -- `card::numbers`: stages numbered from 0, so that zeros are a file that goes on; a refusal without its record
-  pub card_numbers_lem : OneAnswer CardNumbers.Post
-  pub card_from_zero : Tells (CardNumbers.Post tt) (card_state InBatch one_sale, tt) (card_list 3 0 0 0) (card_list 2 0 0 0)
-  pub card_refusal : Tells (CardNumbers.Post tt) (card_state (Refused (refusal SequenceWrong 5 194)) one_sale, tt) (card_list 6 9 5 194) (card_list 6 9 0 194)
+  pub card_numbers_lem : OneAnswer CardNumbersSays
+  pub card_from_zero : Tells (CardNumbersSays tt) (card_state InBatch one_sale, tt) (card_list 3 0 0 0) (card_list 2 0 0 0)
+  pub card_refusal : Tells (CardNumbersSays tt) (card_state (Refused (refusal SequenceWrong 5 194)) one_sale, tt) (card_list 6 9 5 194) (card_list 6 9 0 194)
   -- `card::state_of`: zeros taken for an open file; a number that is no stage's taken for one; the settled for the forecasts
-  pub card_state_of : OneAnswer CardStateOf.Post
-  pub card_of_zeros : Tells (CardStateOf.Post (one κ)) (lent (replicate 24 0), tt) (opened (Refused (refusal EditionUnknown 0 0)) 0) (opened Start 0)
-  pub card_of_no_stage : Tells (CardStateOf.Post (one κ)) (lent (card_list 7 9 5 194), tt) (card_state (Refused (refusal SequenceWrong 5 194)) one_sale) (card_state InBatch one_sale)
-  pub card_of_forecast : Tells (CardStateOf.Post (one κ)) (lent (card_list 3 0 0 0), tt) (card_state InBatch one_sale) (card_state InBatch one_forecast)
+  pub card_state_of : OneAnswer CardStateOfSays
+  pub card_of_zeros : Tells (CardStateOfSays (one κ)) (lent (replicate 24 0), tt) (opened (Refused (refusal EditionUnknown 0 0)) 0) (opened Start 0)
+  pub card_of_no_stage : Tells (CardStateOfSays (one κ)) (lent (card_list 7 9 5 194), tt) (card_state (Refused (refusal SequenceWrong 5 194)) one_sale) (card_state InBatch one_sale)
+  pub card_of_forecast : Tells (CardStateOfSays (one κ)) (lent (card_list 3 0 0 0), tt) (card_state InBatch one_sale) (card_state InBatch one_forecast)
   -- `payroll::numbers`: that it is a return left out; the answer left out
-  pub payroll_numbers_lem : OneAnswer PayrollNumbers.Post
-  pub payroll_return : Tells (PayrollNumbers.Post tt) (returned, tt) (returned_list 1) (returned_list 0)
-  pub payroll_answer_lem : Tells (PayrollNumbers.Post tt) (feeding (state Ended 5 3 1 10000) (Answered (accepted 1 10000)), tt) accepted_list (refused_list 0 0)
+  pub payroll_numbers_lem : OneAnswer PayrollNumbersSays
+  pub payroll_return : Tells (PayrollNumbersSays tt) (returned, tt) (returned_list 1) (returned_list 0)
+  pub payroll_answer_lem : Tells (PayrollNumbersSays tt) (feeding (state Ended 5 3 1 10000) (Answered (accepted 1 10000)), tt) accepted_list (refused_list 0 0)
   -- `payroll::feeding_of`: zeros taken for an open file; an accepted file taken for one that goes on; a refusal behind the end forgotten
-  pub feeding_of_lem : OneAnswer FeedingOf.Post
-  pub feeding_of_zeros : Tells (FeedingOf.Post (one κ)) (lent (replicate 20 0), tt) (feeding (payroll_opened (Stopped (refusal EditionUnknown 0 0))) GoingOn) (feeding (payroll_opened AtStart) GoingOn)
-  pub feeding_of_accepted : Tells (FeedingOf.Post (one κ)) (lent accepted_list, tt) (feeding (state Ended 5 3 1 10000) (Answered (accepted 1 10000))) (feeding (state Ended 5 3 1 10000) GoingOn)
-  pub feeding_of_refused : Tells (FeedingOf.Post (one κ)) (lent (refused_list 13 6), tt) (feeding (state Ended 5 3 1 10000) (Answered (refused (refusal BytesAfterTheEnd 6 0)))) (feeding (state Ended 5 3 1 10000) GoingOn)
+  pub feeding_of_lem : OneAnswer FeedingOfSays
+  pub feeding_of_zeros : Tells (FeedingOfSays (one κ)) (lent (replicate 20 0), tt) (feeding (payroll_opened (Stopped (refusal EditionUnknown 0 0))) GoingOn) (feeding (payroll_opened AtStart) GoingOn)
+  pub feeding_of_accepted : Tells (FeedingOfSays (one κ)) (lent accepted_list, tt) (feeding (state Ended 5 3 1 10000) (Answered (accepted 1 10000))) (feeding (state Ended 5 3 1 10000) GoingOn)
+  pub feeding_of_refused : Tells (FeedingOfSays (one κ)) (lent (refused_list 13 6), tt) (feeding (state Ended 5 3 1 10000) (Answered (refused (refusal BytesAfterTheEnd 6 0)))) (feeding (state Ended 5 3 1 10000) GoingOn)
