@@ -1,4 +1,4 @@
-// The work of the program `payroll`: from a descriptor or names to outcomes, and from an outcome to what is printed.
+// The work of the program `payroll`: from a reader or names to outcomes, and from an outcome to what is printed.
 #![tactic(auto)]
 
 pub mod check;
