@@ -19,10 +19,6 @@ returns-in-Bytes g c =
     let within : tail ≤ length buffer = omega (arith, waits.0) in (
       omega arith,
       omega (arith, waits.0, c.in-Bytes.ensures.1, rest_length buffer tail),
-<<<<<<< HEAD
-      take_at (take tail buffer) _ tail (length-take-le tail buffer within) ∙ waits.1 ∙ ap (λ (room : ℕ). unless_full room (cut (take a.end a.buffer.now)).rest) c.requires.0.size,
-=======
       take_at (take tail buffer) _ tail (length-take-le tail buffer within) ∙ waits.1 ∙
           ap (λ (room : ℕ). unless_full room (cut (take a.end a.buffer.now)).rest) c.requires.0.size,
->>>>>>> bcb6fe5b4b8faf04a4631d60cc7a9b9340115bf9
     )
