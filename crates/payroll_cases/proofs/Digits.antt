@@ -1,9 +1,8 @@
 -- Laws of digits that are put from the last one on: what is still to put, and what stands behind it, are the digits of all.
 use Prim.Native.Nat.{ℕ, suc, ◌+◌, ◌-◌, ◌/◌, ◌%◌, ◌≤◌, ◌<◌}
-use mathlib.Core.Path.{◌≡◌, refl, sym, ap, ◌∙◌}
+use mathlib.Core.Path.{◌≡◌, sym, ap, ◌∙◌}
 use mathlib.Core.List.{List, [], ◌∷◌, ◌++◌, append-nil, append_assoc}
 use native.Mathlib.Omega.{arith}
-use native.Mathlib.Numerals.{add-one}
 use lib.ListN.{length, take, drop, set, drop_of_length-le}
 use lib.Seq.{length-take-le, set_split, drop_at}
 use Rattle.payroll_cases.specs.Record.{digits_of}

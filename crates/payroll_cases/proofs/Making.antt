@@ -1,11 +1,9 @@
 -- Laws of a file that is made record by record: records that are put in two parts are put as one list; and when there is room for bytes.
 use Prim.Native.Nat.{ℕ, suc, ◌+◌, ◌≤◌, ◌<◌}
 use mathlib.Core.Path.{◌≡◌, refl, sym, ap, ◌∙◌}
-use mathlib.Core.List.{List, [], ◌∷◌, ◌++◌, append-nil, foldl-append}
-use native.Mathlib.Omega.{arith}
+use mathlib.Core.List.{List, [], ◌∷◌, ◌++◌, foldl-append}
 use native.Mathlib.Numerals.{add-one}
-use lib.ListN.{length, take, drop, drop_of_length-le}
-use lib.Seq.{take-length}
+use lib.ListN.{length, take, drop}
 use borrow.Author.Tests.{le-leb, lt-leb}
 use Rattle.payroll_cases.specs.declared.record.Record.{Record}
 use Rattle.payroll_cases.specs.declared.made.Plan.{Plan}
@@ -23,14 +21,10 @@ pub has_room : (m : Made) (bytes : List ℕ) → m.size + length bytes ≤ lengt
 unfolding put_behind
 has_room m bytes h = rw (le-leb _ _ h)
 
--- bytes that are copied into a part as long as they are
-pub put_there : (out bytes part copied behind : List ℕ) (at : ℕ) → at + length bytes ≤ length out → length part ≡ length bytes →
-    copied ≡ take (length bytes) bytes ++ drop (length bytes) part → behind ≡ drop (at + length bytes) out →
+-- bytes that are copied between what stands in front and behind
+pub put_there : (out bytes copied behind : List ℕ) (at : ℕ) → at + length bytes ≤ length out → copied ≡ bytes → behind ≡ drop (at + length bytes) out →
     made (take at out ++ (copied ++ behind)) (at + length bytes) ≡ put_behind (made out at) bytes
-put_there out bytes part copied behind at room same e f =
-    let none : drop (length bytes) part ≡ [] = drop_of_length-le part {i = length bytes} (omega arith) in
-    let whole : copied ≡ bytes = e ∙ rw (none, take-length, append-nil) in
-    rw (whole, f) (has_room (made out at) bytes room)
+put_there out bytes copied behind at room e f = rw (e, f) (has_room (made out at) bytes room)
 
 -- a record that is another is put as that
 pub put_as : (m : Made) {after : Made} {what other : Record} → what ≡ other → after ≡ put_behind m (record_of what) → after ≡ put_behind m (record_of other)
