@@ -1,11 +1,9 @@
--- `card_copy::buffer::move_to_front` meets its contract. The invariant: the bytes so far were moved, those behind them are as they were, and the buffer
--- keeps its length.
-use Prim.Native.Nat.{ℕ, ◌+◌, ◌-◌, ◌≤◌, ◌<◌}
+-- `card_copy::buffer::move_to_front` meets its contract: each byte goes where the invariant needs it, and behind the last the whole part is moved.
+use Prim.Native.Nat.{ℕ, ◌+◌, ◌-◌, ◌<◌}
 use mathlib.Core.Path.{◌≡◌, refl, subst}
 use lib.ListN.{length, take, drop, length-set}
 use native.Mathlib.Omega.{arith}
 use Rattle.card_copy.proofs.Moves.{moved_more, rest_less}
-use borrow.Author.Rules.{rules}
 use Rattle.card_copy.proofs.buffer.move_to_front.Goals as goal
 
 pub loop-i-init : goal.loop-i-init

@@ -1,17 +1,14 @@
 -- `card_copy::copy::copy_by` meets its contract. The invariant: the bytes that are to be taken lie within the buffer, which keeps its length, and those
 -- in front of them are what waits of the chunks that the stream has taken. The measure is the count of reads.
 use Prim.Native.Nat.{◌≤◌}
-use mathlib.Core.Path.{◌≡◌, subst}
-use native.Mathlib.Omega.{arith}
+use mathlib.Core.Path.{◌≡◌}
 use lib.ListN.{length, take}
-use borrow.Author.Rules.{rules}
-use Rattle.card_program.proofs.Ended.{checked}
-use Rattle.card_copy.specs.Copying.{NextWithin}
-use Rattle.card_copy.proofs.Hand.{Waits, none_waits, in_hand, next_waits, next_taken}
+use Rattle.card_copy.proofs.Hand.{Waits}
 use Rattle.card_copy.proofs.copy.copy_by.Given as goal
 
 abbrev pub invariant-loop-reads : goal.invariant-loop-reads
-invariant-loop-reads g l = (l.tail ≤ l.end) × (l.end ≤ length l.buffer) × (length l.buffer ≡ length l.initial.buffer) × Waits l.edition l.stream (take l.tail l.buffer)
+invariant-loop-reads g l =
+    (l.tail ≤ l.end) × (l.end ≤ length l.buffer) × (length l.buffer ≡ length l.initial.buffer) × Waits l.edition l.stream (take l.tail l.buffer)
 
 abbrev pub decreases-loop-reads : goal.decreases-loop-reads
 decreases-loop-reads g l = l.reads

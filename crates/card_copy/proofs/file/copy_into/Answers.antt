@@ -1,5 +1,4 @@
 -- `card_copy::file::copy_into` meets its contract: the copy's answer is handed on, or there is a mistake.
-use borrow.Author.Rules.{rules}
 use Rattle.card_copy.proofs.file.copy_into.Goals as goal
 
 pub returns : goal.returns

@@ -2,16 +2,12 @@
 use Prim.Native.Nat.{◌≤◌}
 use lib.Dec.{lit≤}
 use lib.ListN.{length}
-use Rattle.wording.proofs.Putting.{whole, counted}
+use Rattle.wording.proofs.Putting.{whole}
 use Rattle.adjustment_rows.specs.Row.{header}
-use borrow.Author.Rules.{rules}
 use Rattle.card_copy.proofs.write.write_first.Goals as goal
 
 has_room : length header ≤ 86
 has_room = lit≤ tt
-
-pub slice_bounds-write_header-end : goal.slice_bounds-write_header-end
-slice_bounds-write_header-end c = counted has_room c.put_header-size.ensures
 
 pub write_header-requires : goal.write_header-requires
 write_header-requires c = whole has_room c.put_header-size.ensures
