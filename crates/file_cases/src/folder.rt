@@ -20,7 +20,7 @@ pub fn put(rt: &HostRuntime, content: &[u8], path: &[u8]) {
     let Ok(text) = str::from_utf8(path) else {
         return;
     };
-    if let Ok(mut file) = File::create(rt, text) {
+    if let Ok(mut file) = File::create_new(rt, text) {
         let _written = writing::write_all(&mut file, content);
     }
 }
