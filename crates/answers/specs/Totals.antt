@@ -9,7 +9,7 @@ use Rattle.totals.specs.contracts.sum.checked as Checked
 use Rattle.totals.specs.contracts.sum.added as Added
 use Rattle.totals.specs.contracts.amounts.Amounts.agree as Agree
 use Rattle.totals.specs.contracts.amounts.Amounts.added as AmountsAdded
-use Rattle.totals.specs.contracts.amounts.Totals.none as None
+use Rattle.totals.specs.contracts.amounts.Totals.none as NoTotals
 use Rattle.totals.specs.contracts.amounts.Totals.of_sale as OfSale
 use Rattle.totals.specs.contracts.amounts.Totals.added as TotalsAdded
 use Rattle.totals.specs.contracts.two_sets.TwoSets.none as NoSets
@@ -31,8 +31,8 @@ AgreeSays κs a r s = fact_of ((Agree.clauses logic memory run κs a).ensures tt
 abbrev AmountsAddedSays : Claim AmountsAdded.ended
 AmountsAddedSays κs a r s = fact_of ((AmountsAdded.clauses logic memory run κs a).ensures tt r s) (r_last _)
 
-abbrev NoneSays : Claim None.ended
-NoneSays κs a r s = fact_of ((None.clauses logic memory run κs a).ensures tt r s) (r_last _)
+abbrev NoTotalsSays : Claim NoTotals.ended
+NoTotalsSays κs a r s = fact_of ((NoTotals.clauses logic memory run κs a).ensures tt r s) (r_last _)
 
 abbrev OfSaleSays : Claim OfSale.ended
 OfSaleSays κs a r s = fact_of ((OfSale.clauses logic memory run κs a).ensures tt r s) (r_last _)
@@ -88,9 +88,9 @@ pub record Totals : Type 0 where
   pub amounts_added_net : Tells (AmountsAddedSays tt) (amounts 10 2 8, (amounts 100 30 70, tt)) (amounts 110 32 78) (amounts 110 72 78)
   pub amounts_added_nothing : Tells (AmountsAddedSays tt) (amounts 10 2 8, (amounts 100 30 70, tt)) (amounts 110 32 78) (amounts 10 2 8)
   -- `Totals::none`: counted from 1; the largest numbers, as of a search for the smallest
-  pub none : OneAnswer NoneSays
-  pub none_from_one : Tells (NoneSays tt) tt (totals_of 0 (amounts 0 0 0)) (totals_of 1 (amounts 0 0 0))
-  pub none_largest : Tells (NoneSays tt) tt (totals_of 0 (amounts 0 0 0)) (totals_of 0 (amounts largest largest largest))
+  pub none : OneAnswer NoTotalsSays
+  pub none_from_one : Tells (NoTotalsSays tt) tt (totals_of 0 (amounts 0 0 0)) (totals_of 1 (amounts 0 0 0))
+  pub none_largest : Tells (NoTotalsSays tt) tt (totals_of 0 (amounts 0 0 0)) (totals_of 0 (amounts largest largest largest))
   -- `Totals::of_sale`: a sale that is not counted; one that is counted and not added
   pub of_sale : OneAnswer OfSaleSays
   pub of_sale_uncounted : Tells (OfSaleSays tt) (amounts 10 2 8, tt) (totals_of 1 (amounts 10 2 8)) (totals_of 0 (amounts 10 2 8))
