@@ -1,4 +1,4 @@
--- `mask_cases::copying::in_two` meets its contract: the file is copied, and the copy masked.
+-- `mask_cases::copying::in_two` meets its contract: where there is no room for the copy, the output stays as it was.
 use borrow.Author.Tests.{lt-leb}
 use Rattle.mask_cases.proofs.copying.in_two.Goals as goal
 
