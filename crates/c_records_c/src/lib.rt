@@ -1,4 +1,5 @@
 // What C links of `c_records`: a file record by record. Each export calls the library's function, and states its clauses again.
+// (`no_mangle` on a function of a library exports nothing, so the names of the two crates do not clash.)
 #![tactic(auto)]
 
 pub mod card;

@@ -16,16 +16,16 @@ of_first end lines buffer masked w =
     let z : end - 0 ≡ end = omega arith in
     rw z at w
 
-pub slice_bounds-write_finished-end : goal.slice_bounds-write_finished-end
-slice_bounds-write_finished-end c =
-    let a = c.args in
-    omega (arith, finished_in_front a.buffer.now a.end _ (of_first _ _ _ _ c.mask_lines-lines.ensures).counts)
-
 pub write_finished-requires : goal.write_finished-requires
 write_finished-requires c =
     let a = c.args in
     let z : a.end - 0 ≡ a.end = omega arith in
     lines_may_be_written _ c.mask_lines-lines.ensures (rw z c.requires.1)
+
+pub slice_bounds-write_finished-end : goal.slice_bounds-write_finished-end
+slice_bounds-write_finished-end c =
+    let a = c.args in
+    omega (arith, finished_in_front a.buffer.now a.end _ (of_first _ _ _ _ c.mask_lines-lines.ensures).counts)
 
 pub returns-in-Ok : goal.returns-in-Ok
 returns-in-Ok c =
