@@ -1,27 +1,28 @@
 -- Quotes doubled byte by byte, as the loop goes.
-use Prim.Native.Nat.{ℕ, suc, ◌+◌, ◌≤◌, ◌<◌}
-use mathlib.Core.Path.{◌≡◌, refl}
+use Prim.Native.Nat.{ℕ, ◌+◌, ◌≤◌, ◌<◌}
+use mathlib.Core.Path.{◌≡◌, refl, sym, ap}
 use mathlib.Core.List.{List, [], ◌∷◌, ◌++◌}
 use mathlib.Core.Bool.{Bool, true, false, cond}
 use native.Mathlib.Numerals.{add-one}
-use lib.ListN.{length, get_or, drop, drop_of_length-le}
-use lib.Seq.{drop-cons}
+use lib.ListN.{length, get_or, take}
+use lib.Seq.{take-suc, take_all}
 use lib.Dec.{eqb}
 use Rattle.adjustment_rows.specs.Fields.{doubled}
 
--- a byte, and those behind it
-first_doubled : (b : ℕ) (s : List ℕ) → doubled (b ∷ s) ≡ doubled (b ∷ []) ++ doubled s
+-- a text behind another
+both_doubled : (s t : List ℕ) → doubled (s ++ t) ≡ doubled s ++ doubled t
 unfolding doubled
-first_doubled b s = by (eqb b 34)
+both_doubled [] t = refl
+both_doubled (b ∷ s) t = by (eqb b 34) (both_doubled s t)
   where
-    by : (quote : Bool) → cond quote (34 ∷ 34 ∷ doubled s) (b ∷ doubled s) ≡ cond quote (34 ∷ 34 ∷ []) (b ∷ []) ++ doubled s
-    by true = refl
-    by false = refl
+    by : (quote : Bool) → doubled (s ++ t) ≡ doubled s ++ doubled t → cond quote (34 ∷ 34 ∷ doubled (s ++ t)) (b ∷ doubled (s ++ t)) ≡ cond quote (34 ∷ 34 ∷ doubled s) (b ∷ doubled s) ++ doubled t
+    by true e = ap (λ (l : List ℕ). 34 ∷ 34 ∷ l) e
+    by false e = ap (λ (l : List ℕ). b ∷ l) e
 
-pub next_doubled : (s : List ℕ) (i : ℕ) → i < length s → doubled (drop i s) ≡ doubled (get_or s i 0 ∷ []) ++ doubled (drop (i + 1) s)
-next_doubled s i h = rw (drop-cons s i 0 h, add-one) (first_doubled (get_or s i 0) (drop (suc i) s))
+-- one byte more
+pub one_doubled : (s : List ℕ) (i : ℕ) → i < length s → doubled (take i s) ++ doubled (get_or s i 0 ∷ []) ≡ doubled (take (i + 1) s)
+one_doubled s i h = rw (add-one, take-suc s i 0) (sym (both_doubled (take i s) (get_or s i 0 ∷ [])))
 
--- no byte is left
-pub none_doubled : (s : List ℕ) (i : ℕ) → length s ≤ i → doubled (drop i s) ≡ []
-unfolding doubled
-none_doubled s i h = rw (drop_of_length-le s h)
+-- all bytes
+pub all_doubled : (s : List ℕ) (i : ℕ) → length s ≤ i → doubled (take i s) ≡ doubled s
+all_doubled s i h = ap doubled (take_all i s h)

@@ -37,10 +37,8 @@ fn put_unclosed(text: &[u8], out: &mut [u8], at: usize) -> usize
     ensures { Puts (34 ∷ mark_of text.now ++ doubled text.now) out.old at result out.new }
 {
     let mut end = put_opening(text, out, at);
-    let mut i = 0;
-    while i < text.len() {
-        end = put_byte(text[i], out, end);
-        i += 1;
+    for byte in text {
+        end = put_byte(*byte, out, end);
     }
     end
 }

@@ -5,7 +5,6 @@ ghost use Rattle.adjustment_rows.specs.Rows.{is_adjustment, has_row, row_in, Put
 
 use crate::row;
 use card_adjustment::aj::Aj;
-use lines::Found;
 use wording::put;
 
 // How many bytes the finished lines take, and how many bytes of the output are rows.
@@ -45,20 +44,14 @@ pub fn put_rows(number: u64, bytes: &[u8], out: &mut [u8]) -> Rows
 {
     let mut next = number;
     let mut size = 0;
-    let mut at = 0;
-    while at < bytes.len() {
-        let Found::At(end) = lines::next_lf(bytes, at) else {
-            return Rows {
-                lines: at,
-                size: size,
-            };
-        };
-        size = put_piece(next, &bytes[at..end], out, size);
+    let mut rest = bytes;
+    while let Some((piece, behind)) = lines::first_piece(rest) {
+        size = put_piece(next, piece, out, size);
         next = totals::sum::added(next, 1);
-        at = end + 1;
+        rest = behind;
     }
     Rows {
-        lines: at,
-        size: size,
+        lines: bytes.len() - rest.len(),
+        size,
     }
 }

@@ -3,46 +3,39 @@
 #![tactic(auto)]
 
 use card_copy::output::Output;
+use card_program::outcome::Outcome;
 use card_program::verdict;
 use card_program::verdict::Lines;
-use program::argument::{Argument, Three};
+use program::argument;
 use program::mistake::{Mistake, Program};
-use program::{argument, mistake};
 
-// Prints the adjustments of the file on standard input.
-fn print_read(rt: &HostRuntime) {
+// Checks the file on standard input.
+fn check_read(rt: &HostRuntime) -> Outcome {
     let mut edition = argument::room();
-    let Argument::Bytes(size) = argument::read(rt, 1, &mut edition) else {
-        mistake::tell(rt, Mistake::TooLong);
-        return;
-    };
-    let outcome = card_program::work::work(&edition[..size], &mut rt.stdin());
-    verdict::print(rt, Lines::Adjustments, outcome);
+    let size = argument::read(rt, 1, &mut edition)?;
+    card_program::work::work(&edition[..size], &mut rt.stdin())
 }
 
 // Saves the adjustments of the file that the second argument names in the one that the third does.
-fn save_named(rt: &HostRuntime) {
+fn save_named(rt: &HostRuntime) -> Outcome {
     let mut edition = argument::room();
     let mut file = io::buffer();
     let mut out = io::buffer();
-    let Three::Bytes(a, b, c) = argument::read_three(rt, &mut edition, &mut file, &mut out) else {
-        mistake::tell(rt, Mistake::TooLong);
-        return;
-    };
-    let outcome = card_copy::work::work(
+    let (a, b, c) = argument::read_three(rt, &mut edition, &mut file, &mut out)?;
+    card_copy::work::work(
         rt,
         Output::Adjustments,
         &edition[..a],
         &file[..b],
         &out[..c],
-    );
-    verdict::print(rt, Lines::Adjustments, outcome);
+    )
 }
 
 fn main(rt: HostRuntime) {
-    match argument::count(&rt) {
-        2 => print_read(&rt),
+    let outcome = match argument::count(&rt) {
+        2 => check_read(&rt),
         4 => save_named(&rt),
-        _ => mistake::tell(&rt, Mistake::Usage(Program::Adjustments)),
-    }
+        _ => Err(Mistake::Usage(Program::Adjustments)),
+    };
+    verdict::print(&rt, Lines::Adjustments, outcome);
 }

@@ -1,1 +1,2 @@
 mod SheetRows
+mod RefusedRows

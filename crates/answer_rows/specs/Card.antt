@@ -1,9 +1,8 @@
 -- Document 01's row of a card file's answer as twenty numbers: the refusal, the file's numbers in the answer's order, and last whether the file is accepted.
 use Rattle.std.specs.Prelude.{ℕ, List, [], ◌∷◌, ◌++◌}
 use Rattle.totals.specs.declared.amounts.Totals.{Totals}
-use Rattle.card_run.specs.Answer.{CardFileRow, card_file_row}
+use Rattle.card_run.specs.Answer.{CardAnswer, CardFileRow, card_file_row}
 use Rattle.card_run.specs.declared.answer.Accepted.{Accepted as Numbers}
-use Rattle.card_run.specs.declared.answer.CardAnswer.{CardAnswer}
 use Rattle.answer_rows.specs.Row.{refusal_as_list, as_number}
 
 -- the four numbers of totals

@@ -2,8 +2,8 @@
 use Rattle.std.specs.Prelude.{ℕ, List, ◌++◌}
 use Rattle.day_sheet.specs.Answer.{SheetRow, read_row, written_row}
 use Rattle.day_sheet.specs.Sheet.{row_of}
-use Rattle.day_sheet.specs.declared.reader.SheetRead.{SheetRead}
-use Rattle.day_sheet.specs.declared.writer.SheetWritten.{SheetWritten}
+use Rattle.day_sheet.specs.Reading.{SheetRead}
+use Rattle.day_sheet.specs.Writing.{SheetWritten}
 use Rattle.answer_rows.specs.Row.{refusal_as_list}
 
 abbrev pub sheet_row_as_list : SheetRow → List ℕ

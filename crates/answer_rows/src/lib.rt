@@ -4,4 +4,5 @@
 pub mod card;
 pub mod field;
 pub mod payroll;
+mod refused;
 pub mod sheet;

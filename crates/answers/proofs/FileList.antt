@@ -17,15 +17,14 @@ use Rattle.file_list.specs.declared.tally.Said.{Said}
 use Rattle.file_list.specs.declared.tally.Tally.{Tally}
 use Rattle.file_list.specs.Line.{file_line}
 use Rattle.file_list.specs.Tally.{no_file, one_file_more, tally_of, tally_line, Each, Tallied}
-use Rattle.card_program.specs.declared.outcome.Outcome.{Outcome}
-use Rattle.card_program.specs.declared.outcome.Outcome.TheVariants.{Answer, Mistake}
 use Rattle.card_program.specs.Checked.{Checked}
 use Rattle.card_program.specs.Listing.{said_of}
-use Rattle.payroll_program.specs.declared.outcome.PayrollOutcome.TheVariants.{Mistake as mistake_payroll}
 use Rattle.answers.specs.Held.{Runtime}
 use Rattle.answers.specs.FileList.{FileList}
 use Rattle.answers.proofs.Told.{equal, told}
 use Rattle.answers.proofs.Observed.{list_read}
+use Rattle.card_program.specs.Outcome.{Outcome}
+use Rattle.std.specs.Prelude.{Err, Ok}
 
 -- a tally of one outcome counts one file
 one_file_lem : {A : Type 0} (said : A → Said) (Allowed : A → Type 0) {t : Tally} → Tallied said Allowed 1 t → t.files ≡ 1
@@ -48,8 +47,8 @@ unfolding one_file_more Each
 none_accepted {t} w = by w.outcomes w.as_many w.each w.counted
   where
     counts : (o : Outcome) → Checked 3 o → (one_file_more no_file (said_of o)).accepted ≡ 0
-    counts (Answer answer) (bytes, e) = ap (λ a. (one_file_more no_file (said_of (Answer a))).accepted) (e ∙ edition_first 3 (unknown_fault 3 refl) bytes)
-    counts (Mistake mistake) c = refl
+    counts (Ok answer) (bytes, e) = ap (λ a. (one_file_more no_file (said_of (Ok a))).accepted) (e ∙ edition_first 3 (unknown_fault 3 refl) bytes)
+    counts (Err mistake) c = refl
 
     by : (outcomes : List Outcome) → length outcomes ≡ 1 → Each (Checked 3) outcomes → t ≡ tally_of (map said_of outcomes) → t.accepted ≡ 0
     by [] l e c = absurd (omega arith)
@@ -84,26 +83,26 @@ file_list κ rt =
       tally_exchanged = (record { ends = refl; leaves = refl }, λ p. told (λ s. get_or s 27 0) refl p.leaves);
       tally_no_files = (record { ends = refl; leaves = refl }, λ p. told (λ n. n) refl p.ends);
       list_passed_over = (
-        record { outcomes = Mistake (System Read 0) ∷ []; as_many = refl; each = (tt, tt); counted = refl },
+        record { outcomes = Err (System Read 0) ∷ []; as_many = refl; each = (tt, tt); counted = refl },
         λ p. told (λ n. n) refl (one_file_lem _ _ p),
       );
-      list_ended = (record { outcomes = Mistake (System Read 0) ∷ []; as_many = refl; each = (tt, tt); counted = refl }, λ p. p);
+      list_ended = (record { outcomes = Err (System Read 0) ∷ []; as_many = refl; each = (tt, tt); counted = refl }, λ p. p);
       list_edition = (
-        record { outcomes = Mistake (System Read 0) ∷ []; as_many = refl; each = (tt, tt); counted = refl },
+        record { outcomes = Err (System Read 0) ∷ []; as_many = refl; each = (tt, tt); counted = refl },
         λ p. told (λ n. n) refl (none_accepted p),
       );
       list_word = (refl, told list_read refl);
-      list_number = (record { outcomes = Mistake (System Read 0) ∷ []; as_many = refl; each = (tt, tt); counted = refl }, λ p. p);
+      list_number = (record { outcomes = Err (System Read 0) ∷ []; as_many = refl; each = (tt, tt); counted = refl }, λ p. p);
       list_payroll_over = (
-        record { outcomes = mistake_payroll (System Read 0) ∷ []; as_many = refl; each = ((Read, 0, refl), tt); counted = refl },
+        record { outcomes = Err (System Read 0) ∷ []; as_many = refl; each = ((Read, 0, refl), tt); counted = refl },
         λ p. told (λ n. n) refl (one_file_lem _ _ p),
       );
       list_payroll_two = (
-        record { outcomes = mistake_payroll (System Read 0) ∷ []; as_many = refl; each = ((Read, 0, refl), tt); counted = refl },
+        record { outcomes = Err (System Read 0) ∷ []; as_many = refl; each = ((Read, 0, refl), tt); counted = refl },
         λ p. told (λ n. n) refl (one_file_lem _ _ p),
       );
       list_payroll_ended = (
-        record { outcomes = mistake_payroll (System Read 0) ∷ []; as_many = refl; each = ((Read, 0, refl), tt); counted = refl },
+        record { outcomes = Err (System Read 0) ∷ []; as_many = refl; each = ((Read, 0, refl), tt); counted = refl },
         λ p. p,
       );
     }

@@ -7,7 +7,6 @@ use native.Mathlib.Omega.{arith}
 use borrow.Author.Tests.{lt-ltb}
 use base.Fml.{Lft}
 use Rattle.refusal.specs.declared.Cause.{Cause}
-use Rattle.refusal.specs.declared.Fault.TheVariants.{At}
 use Rattle.refusal.specs.Nowhere.{nowhere}
 use Rattle.refusal.specs.Rules.{first_broken}
 use Rattle.text.specs.Alphabet.{allowed, holds_only, first_stray}
@@ -24,9 +23,7 @@ use Rattle.card_content.specs.Field.{table_rules, record_rules}
 use Rattle.card_sale.specs.Cv.{joined_rules}
 use Rattle.card_record.specs.Kind.{kind_named}
 use Rattle.card_record.specs.Reading.{right_reading, judged_as, read_found}
-use Rattle.card_run.specs.declared.answer.CardAnswer.{CardAnswer}
-use Rattle.card_run.specs.declared.answer.CardAnswer.TheVariants.{Refused}
-use Rattle.card_run.specs.Answer.{answer_at}
+use Rattle.card_run.specs.Answer.{answer_at, CardAnswer}
 use Rattle.card_run.specs.Running.{closed_at, late_at}
 use Rattle.card_step.specs.Rules.{joined_at, rules_of}
 use Rattle.card_step.specs.Behind.{behind}
@@ -43,15 +40,12 @@ use Rattle.payroll_run.specs.Behind.{behind_detail_as, behind as payroll_behind}
 use Rattle.payroll_step.specs.Step.{behind_or_refused as payroll_behind_or_refused, took_at as payroll_took_at}
 use Rattle.payroll_file.specs.PayrollFile.{lines_of as payroll_lines_of, ended_of, end_at, check_of as payroll_check_of}
 use Rattle.payroll_file.specs.declared.answer.Accepted.{Accepted as PayrollNumbers}
-use Rattle.payroll_file.specs.declared.answer.PayrollAnswer.TheVariants.{Accepted as accepted_payroll}
 use Rattle.payroll_stream.specs.Stream.{so_far, answer_at as payroll_answer_at}
 use Rattle.payroll_kept.specs.Numbers.{Numbers}
 use Rattle.payroll_kept.proofs.KeptMeansKept as payroll
 use Rattle.day_sheet.specs.Number.{in_base, value_in}
 use Rattle.sheet_numbers.specs.declared.sheet.Sheet.{Sheet}
 use Rattle.sheet_numbers.specs.declared.sheet.Sheet.TheVariants.{Version1, Version2}
-use Rattle.day_sheet.specs.declared.reader.SheetRead.{SheetRead}
-use Rattle.day_sheet.specs.declared.reader.SheetRead.TheVariants.{Read, Refused as unread}
 use Rattle.day_sheet.specs.Layout.{in_places, from_places, digits_right}
 use Rattle.day_sheet.specs.Sheet.{sheet_row, bytes_of}
 use Rattle.sheet_numbers.specs.Allowed.{within_limits, set_allowed, sets_allowed, heading_allowed, none_of, split_allowed, sheet_allowed}
@@ -74,6 +68,9 @@ use Rattle.answers.specs.Held.{Runtime, Opened}
 use Rattle.answers.specs.Samples.{card_file, payroll_file}
 use Rattle.answers.proofs.Told.{equal, told, bit}
 use Rattle.answers.proofs.Observed.{argument_read, answer_read, card_outcome_read, outcome_read, sheet_kind, split_read}
+use Rattle.refusal.specs.Fault.{at}
+use Rattle.day_sheet.specs.Reading.{SheetRead}
+use Rattle.std.specs.Prelude.{Err, Ok, Some}
 
 -- no file has totals that disagree
 disagreeing : (bytes : List ℕ) → made_up ≡ check_of 2 bytes → ⊥
@@ -82,25 +79,25 @@ disagreeing bytes e =
     told (λ n. n) refl (plain_numbers_lem 2 bytes _ (sym e) kept).settled.agree
 
 -- what every file gets under an edition that is refused
-under : (edition : ℕ) {cause : Cause} {column : ℕ} {x : CardAnswer} → edition_fault edition ≡ At cause column → (bytes : List ℕ) → x ≡ check_of edition bytes →
-    x ≡ Refused (nowhere cause)
+under : (edition : ℕ) {cause : Cause} {column : ℕ} {x : CardAnswer} → edition_fault edition ≡ at cause column → (bytes : List ℕ) → x ≡ check_of edition bytes →
+    x ≡ Some (Err (nowhere cause))
 under edition bad bytes e = e ∙ edition_first edition bad bytes
 
 -- what was converted tells no split as known, and is allowed
-no_split : (r : SheetRead) → Read both_sets ≡ converted_read r → ⊥
+no_split : (r : SheetRead) → Ok both_sets ≡ converted_read r → ⊥
 unfolding converted
-no_split (Read (Version1 heading totals)) e = told split_read refl e
-no_split (Read (Version2 heading split sets)) e = told split_read refl e
-no_split (unread refusal) e = told split_read refl e
+no_split (Ok (Version1 heading totals)) e = told split_read refl e
+no_split (Ok (Version2 heading split sets)) e = told split_read refl e
+no_split (Err refusal) e = told split_read refl e
 
-converted_right : (bytes : List ℕ) (r : SheetRead) (s : Sheet) → read_of bytes ≡ r → Read s ≡ converted_read r → sheet_allowed s ≡ true
-converted_right bytes (Read t) s e f =
+converted_right : (bytes : List ℕ) (r : SheetRead) (s : Sheet) → read_of bytes ≡ r → Ok s ≡ converted_read r → sheet_allowed s ≡ true
+converted_right bytes (Ok t) s e f =
     let same : s ≡ converted t = cc in
     ap sheet_allowed same ∙ converted_allowed t (read_allowed bytes t e)
-converted_right bytes (unread refusal) s e f = absurd (told sheet_kind refl f)
+converted_right bytes (Err refusal) s e f = absurd (told sheet_kind refl f)
 
 -- the numbers of every accepted payroll file are the plain ones of its records
-plain : (bytes : List ℕ) (a : PayrollNumbers) (e : accepted_payroll a ≡ payroll_check_of bytes) →
+plain : (bytes : List ℕ) (a : PayrollNumbers) (e : Ok a ≡ payroll_check_of bytes) →
     Numbers ((payroll.kept_means_kept bytes).0 (record { numbers = a; answer = sym e })).file a
 plain bytes a e = payroll.plain_numbers_lem bytes a (sym e) ((payroll.kept_means_kept bytes).0 (record { numbers = a; answer = sym e }))
 

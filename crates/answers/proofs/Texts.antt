@@ -3,7 +3,6 @@
 use Prim.Native.Nat.{ℕ}
 use mathlib.Core.Path.{◌≡◌, refl}
 use mathlib.Core.List.{List}
-use lib.IntN.{nat_abs}
 use lib.ListN.{get_or}
 use base.Fml.{Lft}
 use Rattle.wording.specs.Put.{over, over_at, Puts}
@@ -15,6 +14,7 @@ use Rattle.payroll_program.specs.Verdict.{accepted_text as payroll_text}
 use Rattle.day_sheet.specs.Number.{in_base}
 use Rattle.sheet_program.specs.Verdict.{digits_line, heading_text, version1_text, version2_text}
 use Rattle.answers.specs.Texts.{Texts}
+use Rattle.answers.proofs.Observed.{standard_read}
 use Rattle.answers.proofs.Told.{equal, told}
 
 one_put : {text before after after' : List ℕ} {at end end' : ℕ} → Puts text before at end after → Puts text before at end' after' → (end ≡ end') × (after ≡ after')
@@ -65,12 +65,12 @@ texts κ =
       sheet_no_split = (record { ends = refl; leaves = refl }, λ p. told (λ n. n) refl p.ends);
       sheet_added = (record { ends = refl; leaves = refl }, λ p. told (λ n. n) refl p.ends);
       card_to = λ κs a r r' s s' p q. equal p q;
-      card_to_error = (refl, told nat_abs refl);
-      card_to_output = (refl, told nat_abs refl);
+      card_to_error = (refl, told standard_read refl);
+      card_to_output = (refl, told standard_read refl);
       payroll_to = λ κs a r r' s s' p q. equal p q;
-      payroll_to_error = (refl, told nat_abs refl);
-      payroll_to_output = (refl, told nat_abs refl);
+      payroll_to_error = (refl, told standard_read refl);
+      payroll_to_output = (refl, told standard_read refl);
       sheet_to = λ κs a r r' s s' p q. equal p q;
-      sheet_to_error = (refl, told nat_abs refl);
-      sheet_to_output = (refl, told nat_abs refl);
+      sheet_to_error = (refl, told standard_read refl);
+      sheet_to_output = (refl, told standard_read refl);
     }

@@ -33,7 +33,6 @@ use Rattle.card_record.specs.Kind.{kind_named}
 use Rattle.card_record.specs.Reading.{right_reading, judged_as, read_found}
 use Rattle.card_quick.specs.Quick.{none_above, least, greatest, in_picture, sets_right, days_right, surely_right}
 use Rattle.card_run.specs.Answer.{answer_at, answer_of, card_file_row}
-use Rattle.card_run.specs.declared.answer.CardAnswer.TheVariants.{Accepted, GoingOn}
 use Rattle.card_run.specs.Running.{no_numbers, closed_at, late_at}
 use Rattle.card_step.specs.Rules.{joined_at, rules_of}
 use Rattle.card_step.specs.Behind.{behind}
@@ -52,7 +51,6 @@ use Rattle.card_sheet.specs.SheetOf.{sheet_into}
 use Rattle.chunks.specs.Unfinished.{clipped_with}
 use Rattle.chunks.specs.Chunks.{held_before, joined_chunks}
 use Rattle.card_stream.specs.Stream.{open_of as stream_open, behind_end, with_held}
-use Rattle.files.specs.declared.reading.Got.TheVariants.{End, Failed}
 use Rattle.wording.specs.Put.{over, over_at}
 use Rattle.wording.specs.Number.{digits_within}
 use Rattle.wording.specs.Line.{word_of, line_of, refused_line}
@@ -75,12 +73,10 @@ use Rattle.payroll_file.specs.PayrollFile.{
   cut_short_of,
   end_at,
 }
-use Rattle.payroll_file.specs.declared.answer.PayrollAnswer.TheVariants.{Accepted as payroll_accepted}
 use Rattle.payroll_file.specs.Answer.{no_numbers as no_payroll_numbers, payroll_row, state_row}
 use Rattle.payroll_kept.specs.FirstFault.{is_one_of}
 use Rattle.payroll_kept.specs.FirstFaultOfFile.{rules_behind as payroll_rules_behind}
 use Rattle.payroll_kept.specs.State.{those, amounts_of}
-use Rattle.payroll_stream.specs.declared.Progress.TheVariants.{GoingOn as none_yet, Answered}
 use Rattle.payroll_stream.specs.Stream.{so_far, answer_at as progress_at, progress_row}
 use Rattle.payroll_stream.specs.Feeding.{open_feeding, fed_at as feeding_at, closed_at as feeding_closed_at}
 use Rattle.payroll_run.specs.declared.stage.Stage.TheVariants.{Refused as payroll_refused}
@@ -112,6 +108,7 @@ use Rattle.answers.specs.Samples.{at, sale, card_file, credit, debit, adjusted_f
 use Rattle.answers.specs.Variants.{Variants}
 use Rattle.answers.proofs.Observed.{sheet_written}
 use Rattle.answers.proofs.Told.{told, bit}
+use Rattle.std.specs.Prelude.{None, Ok, Some, Err}
 
 -- no number is one more than itself: 0 is no record of a file
 not_first : (n : ℕ) → 0 ≡ suc n → ⊥
@@ -218,8 +215,8 @@ variants d =
       card_chunks_by_numbers = λ wrong. told (λ row. get_or row 0 0) refl (wrong 2 []);
       payroll_chunks_by_numbers = λ wrong. told (λ row. get_or row 0 0) refl (wrong []);
       not_opened = λ wrong. told (λ row. get_or row 0 0) refl (wrong (0 ∷ 5 ∷ []) refl);
-      card_row = λ wrong. told (λ answer. bit (card_file_row answer).accepted) refl (wrong (Accepted no_numbers) GoingOn refl);
-      payroll_row_lem = λ wrong. told (λ progress. bit (progress_row progress).accepted) refl (wrong (Answered (payroll_accepted no_payroll_numbers)) none_yet refl);
+      card_row = λ wrong. told (λ answer. bit (card_file_row answer).accepted) refl (wrong (Some (Ok no_numbers)) None refl);
+      payroll_row_lem = λ wrong. told (λ progress. bit (progress_row progress).accepted) refl (wrong (Some (Ok no_payroll_numbers)) None refl);
       hidden_digits_reach_nothing = λ wrong. told (λ row. bit row.accepted) refl (wrong 2 card_file (file_of (at 77 "00000009751" sale)) refl);
       masks_lines = λ wrong.
           told (λ n. n) refl (wrong (ascii "\n") (ascii "A") refl _ _ _ _ (record { counts = refl; leaves = refl }) (record { counts = refl; leaves = refl }));
@@ -233,10 +230,10 @@ variants d =
       printed = λ wrong.
           told (λ s. get_or s 0 0) refl
           (wrong 2 [] []
-          (record { more_of_one = []; more_of_other = []; files = record { same_length = refl; same_byte = λ i k f. refl }; equally_much = refl }) End (Failed 0));
+          (record { more_of_one = []; more_of_other = []; files = record { same_length = refl; same_byte = λ i k f. refl }; equally_much = refl }) (Ok None) (Err 0));
       listed = λ wrong.
           told (λ s. get_or s 29 0) refl
-          (wrong 2 [] [] (record { more_of_one = []; more_of_other = []; files = record { same_length = refl; same_byte = λ i k f. refl }; equally_much = refl }) End
+          (wrong 2 [] [] (record { more_of_one = []; more_of_other = []; files = record { same_length = refl; same_byte = λ i k f. refl }; equally_much = refl }) (Ok None)
           (ascii "a") (ascii "b"));
       csv = λ wrong. told (λ s. get_or s 124 0) refl (wrong (with_cr credit ++ ascii "\n") (with_cr debit ++ ascii "\n") refl);
       puts_rows = λ wrong.

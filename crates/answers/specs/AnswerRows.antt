@@ -1,11 +1,6 @@
 -- What the contracts of the rows of answers are held to. Behind a function's name: the wrong programs that are ruled out.
-use Rattle.std.specs.Prelude.{ℕ, List, [], ◌∷◌, ◌++◌, replicate}
+use Rattle.std.specs.Prelude.{ℕ, List, [], ◌∷◌, ◌++◌, replicate, Err, None, Ok, Some}
 use Rattle.refusal.specs.declared.Cause.TheVariants.{EndsTooEarly, SequenceWrong, NotADaySheet, SheetNumbersNotAllowed}
-use Rattle.card_run.specs.declared.answer.CardAnswer.TheVariants.{GoingOn, Accepted, Refused}
-use Rattle.payroll_file.specs.declared.answer.PayrollAnswer.TheVariants.{Refused as not_paid}
-use Rattle.payroll_stream.specs.declared.Progress.TheVariants.{GoingOn as on_the_way, Answered}
-use Rattle.day_sheet.specs.declared.reader.SheetRead.TheVariants.{Read, Refused as not_read}
-use Rattle.day_sheet.specs.declared.writer.SheetWritten.TheVariants.{Written, Refused as not_written}
 use Rattle.answers.specs.CardRun.{adjusted, numbers_with, refusal, no_sale, one_sale, one_forecast, accepted}
 use Rattle.answers.specs.PayrollFile.{accepted as paid}
 use Rattle.answers.specs.DaySheet.{both_sets, sets_row, exchanged_row}
@@ -59,25 +54,25 @@ pub record AnswerRows (κ : Lft) : Type 0 where
   pub card_row : OneAnswer CardRowSays
   pub card_net : Tells (CardRowSays tt) (accepted 5 1 one_sale, tt) sale_row (accepted_row (0 ∷ 0 ∷ 0 ∷ 0 ∷ 1 ∷ 10000 ∷ 250 ∷ 250 ∷ 0 ∷ 0 ∷ 0 ∷ 0 ∷ []))
   pub card_forecast : Tells (CardRowSays tt) (accepted 5 1 one_forecast, tt) (accepted_row (1 ∷ 10000 ∷ 250 ∷ 9750 ∷ replicate 8 0)) sale_row
-  pub card_debits : Tells (CardRowSays tt) (Accepted (numbers_with 5 1 no_sale (adjusted 0 0) (adjusted 1 975)), tt) (accepted_row (replicate 10 0 ++ (1 ∷ 975 ∷ []))) (accepted_row (replicate 8 0 ++ (1 ∷ 975 ∷ 0 ∷ 0 ∷ [])))
-  pub card_column : Tells (CardRowSays tt) (Refused (refusal SequenceWrong 3 194), tt) (refused_row 9 3 194 17) (refused_row 9 3 0 17)
-  pub card_going_on : Tells (CardRowSays tt) (GoingOn, tt) (replicate 20 0) (replicate 19 0 ++ (1 ∷ []))
+  pub card_debits : Tells (CardRowSays tt) (Some (Ok (numbers_with 5 1 no_sale (adjusted 0 0) (adjusted 1 975))), tt) (accepted_row (replicate 10 0 ++ (1 ∷ 975 ∷ []))) (accepted_row (replicate 8 0 ++ (1 ∷ 975 ∷ 0 ∷ 0 ∷ [])))
+  pub card_column : Tells (CardRowSays tt) (Some (Err (refusal SequenceWrong 3 194)), tt) (refused_row 9 3 194 17) (refused_row 9 3 0 17)
+  pub card_going_on : Tells (CardRowSays tt) (None, tt) (replicate 20 0) (replicate 19 0 ++ (1 ∷ []))
   -- `payroll_row`: an accepted file not told as such; record and column exchanged
   pub payroll_row_lem : OneAnswer PayrollRowSays
   pub payroll_accepted_lem : Tells (PayrollRowSays tt) (paid 1 10000, tt) payment_row (0 ∷ 0 ∷ 0 ∷ 5 ∷ 1 ∷ 1 ∷ 10000 ∷ 0 ∷ [])
-  pub payroll_exchanged : Tells (PayrollRowSays tt) (not_paid (refusal SequenceWrong 3 9), tt) (refused_row 9 3 9 5) (refused_row 9 9 3 5)
+  pub payroll_exchanged : Tells (PayrollRowSays tt) (Err (refusal SequenceWrong 3 9), tt) (refused_row 9 3 9 5) (refused_row 9 9 3 5)
   -- `progress_row`: a file that goes on, told as one that ended too early; an answer not told
   pub progress_row_lem : OneAnswer ProgressRowSays
-  pub progress_early : Tells (ProgressRowSays tt) (on_the_way, tt) (replicate 8 0) (refused_row 12 1 0 5)
-  pub progress_not_told : Tells (ProgressRowSays tt) (Answered (not_paid (refusal EndsTooEarly 1 0)), tt) (refused_row 12 1 0 5) (replicate 8 0)
+  pub progress_early : Tells (ProgressRowSays tt) (None, tt) (replicate 8 0) (refused_row 12 1 0 5)
+  pub progress_not_told : Tells (ProgressRowSays tt) (Some (Err (refusal EndsTooEarly 1 0)), tt) (refused_row 12 1 0 5) (replicate 8 0)
   -- `sheet_row`: the sets exchanged; a refusal told as a sheet of zeros
   pub sheet_row_lem : OneAnswer SheetRowSays
-  pub sheet_exchanged : Tells (SheetRowSays tt) (Read both_sets, tt) (0 ∷ 0 ∷ 0 ∷ sets_row) (0 ∷ 0 ∷ 0 ∷ exchanged_row)
-  pub sheet_zeros : Tells (SheetRowSays tt) (not_read (refusal NotADaySheet 0 0), tt) (refused_row 15 0 0 14) (replicate 17 0)
+  pub sheet_exchanged : Tells (SheetRowSays tt) (Ok both_sets, tt) (0 ∷ 0 ∷ 0 ∷ sets_row) (0 ∷ 0 ∷ 0 ∷ exchanged_row)
+  pub sheet_zeros : Tells (SheetRowSays tt) (Err (refusal NotADaySheet 0 0), tt) (refused_row 15 0 0 14) (replicate 17 0)
   -- `written_row`: a refusal not told; 1, which is a refusal, for done
   pub written_row : OneAnswer WrittenRowSays
-  pub written_not_told : Tells (WrittenRowSays tt) (not_written (refusal SheetNumbersNotAllowed 0 0), tt) (refused_row 17 0 0 0) (replicate 3 0)
-  pub written_one : Tells (WrittenRowSays tt) (Written, tt) (replicate 3 0) (refused_row 1 0 0 0)
+  pub written_not_told : Tells (WrittenRowSays tt) (Err (refusal SheetNumbersNotAllowed 0 0), tt) (refused_row 17 0 0 0) (replicate 3 0)
+  pub written_one : Tells (WrittenRowSays tt) ((Ok tt), tt) (replicate 3 0) (refused_row 1 0 0 0)
   -- `field_row`: the card's place told; a place counted from 1; the last position for the length
   pub field_row : OneAnswer FieldRowSays
   pub field_card : Tells (FieldRowSays (one κ)) (lent sale, (13, tt)) (refused_row 14 0 0 2) (0 ∷ 0 ∷ 0 ∷ 87 ∷ 19 ∷ [])

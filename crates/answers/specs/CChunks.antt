@@ -1,14 +1,11 @@
 -- What the contracts of a file that C gives in chunks are held to. Behind a function's name: the wrong programs that are ruled out.
-use Rattle.std.specs.Prelude.{ℕ, ◌≡◌, List, [], ◌++◌, take, drop, replicate}
+use Rattle.std.specs.Prelude.{ℕ, ◌≡◌, List, [], ◌++◌, take, drop, replicate, Err, None, Some}
 use Rattle.std.specs.Borrow.{Bor, MutBor}
 use Rattle.text.specs.Literal.{ascii}
 use Rattle.refusal.specs.declared.Cause.TheVariants.{EditionRetired, NoLineEnd, WrongWidth, EndsTooEarly, BytesAfterTheEnd}
 use Rattle.card_run.specs.declared.stage.Stage.TheVariants.{Start, InBatch, Ended, Closed, Refused}
-use Rattle.card_run.specs.declared.answer.CardAnswer.TheVariants.{GoingOn as card_goes_on, Refused as card_refused}
 use Rattle.card_stream.specs.declared.Stream.{Stream as CardStream}
 use Rattle.payroll_run.specs.declared.stage.Stage.TheVariants.{Start as AtStart, InBatch as In, BehindA, Ended as AtEnd, Refused as Stopped}
-use Rattle.payroll_file.specs.declared.answer.PayrollAnswer.TheVariants.{Refused as refused}
-use Rattle.payroll_stream.specs.declared.Progress.TheVariants.{GoingOn, Answered}
 use Rattle.payroll_stream.specs.declared.Stream.{Stream as PayrollStream}
 use Rattle.answer_rows.specs.Card.{card_numbers}
 use Rattle.answer_rows.specs.Payroll.{progress_numbers}
@@ -119,53 +116,53 @@ pub record CChunks (κ : Lft) : Type 0 where
   pub card_answer_lem : OneOutcome (λ κs s. s.1.1.1.0.now) CardAnswerSays
   pub card_answer_early :
       TellsOutcome (CardAnswerSays (three κ)) (asked (card_kept (stream (state Ended 5 one_sale) [])) (lent_mut (replicate 20 0), tt))
-      (record { answer = tt; exit = (asked (card_kept (stream (state Ended 5 one_sale) [])) (lent_mut (card_numbers card_goes_on), tt)) })
+      (record { answer = tt; exit = (asked (card_kept (stream (state Ended 5 one_sale) [])) (lent_mut (card_numbers None), tt)) })
       (record { answer = tt; exit = (asked (card_kept (stream (state Ended 5 one_sale) [])) (lent_mut (card_numbers (accepted 5 0 one_sale)), tt)) })
   pub card_answer_behind :
       TellsOutcome (CardAnswerSays (three κ)) (asked (card_kept (stream (state Closed 5 one_sale) (ascii "x"))) (lent_mut (replicate 20 0), tt))
-      (record { answer = tt; exit = (asked (card_kept (stream (state Closed 5 one_sale) (ascii "x"))) (lent_mut (card_numbers (card_refused (refusal BytesAfterTheEnd 6 0))), tt)) })
+      (record { answer = tt; exit = (asked (card_kept (stream (state Closed 5 one_sale) (ascii "x"))) (lent_mut (card_numbers (Some (Err (refusal BytesAfterTheEnd 6 0)))), tt)) })
       (record { answer = tt; exit = (asked (card_kept (stream (state Closed 5 one_sale) (ascii "x"))) (lent_mut (card_numbers (accepted 5 0 one_sale)), tt)) })
   -- `lossivurn_payroll_stream_open`: accepted before anything has come; bytes of the file before left waiting
   pub payroll_open : OneKept (λ κs s. left s.0 s.1.0 s.1.1.0) PayrollOpenSays
   pub payroll_open_answered :
-      TellsOutcome (PayrollOpenSays (three κ)) (payroll (payroll_stream (payroll_state AtEnd 5 3 1 10000) [] (Answered (paid 1 10000))) tt)
-      (record { answer = tt; exit = (payroll (payroll_stream (payroll_opened AtStart) [] GoingOn) tt) })
-      (record { answer = tt; exit = (payroll (payroll_stream (payroll_opened AtStart) [] (Answered (paid 1 10000))) tt) })
+      TellsOutcome (PayrollOpenSays (three κ)) (payroll (payroll_stream (payroll_state AtEnd 5 3 1 10000) [] (Some (paid 1 10000))) tt)
+      (record { answer = tt; exit = (payroll (payroll_stream (payroll_opened AtStart) [] None) tt) })
+      (record { answer = tt; exit = (payroll (payroll_stream (payroll_opened AtStart) [] (Some (paid 1 10000))) tt) })
   pub payroll_open_waiting :
-      TellsOutcome (PayrollOpenSays (three κ)) (payroll (payroll_stream (payroll_state In 2 1 0 0) (ascii "42") GoingOn) tt)
-      (record { answer = tt; exit = (payroll (payroll_stream (payroll_opened AtStart) [] GoingOn) tt) })
-      (record { answer = tt; exit = (payroll (payroll_stream (payroll_opened AtStart) (ascii "42") GoingOn) tt) })
+      TellsOutcome (PayrollOpenSays (three κ)) (payroll (payroll_stream (payroll_state In 2 1 0 0) (ascii "42") None) tt)
+      (record { answer = tt; exit = (payroll (payroll_stream (payroll_opened AtStart) [] None) tt) })
+      (record { answer = tt; exit = (payroll (payroll_stream (payroll_opened AtStart) (ascii "42") None) tt) })
   -- `lossivurn_payroll_stream_take`: a record cut in two judged by its second half; bytes behind an accepted end passed over; of what waits the number kept, and not the bytes
   pub payroll_take : OneKept (λ κs s. left s.0 s.1.0 s.1.1.0) PayrollTakeSays
   pub payroll_take_half :
-      TellsOutcome (PayrollTakeSays (four κ)) (payroll (payroll_stream (payroll_state In 2 1 0 0) (take 100 payment) GoingOn) (lent (drop 100 payment ++ ascii "\r\n"), tt))
-      (record { answer = tt; exit = (payroll (payroll_stream (payroll_state BehindA 3 2 1 10000) [] GoingOn) (lent (drop 100 payment ++ ascii "\r\n"), tt)) })
-      (record { answer = tt; exit = (payroll (payroll_stream (payroll_state (Stopped (refusal WrongWidth 3 0)) 2 1 0 0) [] GoingOn) (lent (drop 100 payment ++ ascii "\r\n"), tt)) })
+      TellsOutcome (PayrollTakeSays (four κ)) (payroll (payroll_stream (payroll_state In 2 1 0 0) (take 100 payment) None) (lent (drop 100 payment ++ ascii "\r\n"), tt))
+      (record { answer = tt; exit = (payroll (payroll_stream (payroll_state BehindA 3 2 1 10000) [] None) (lent (drop 100 payment ++ ascii "\r\n"), tt)) })
+      (record { answer = tt; exit = (payroll (payroll_stream (payroll_state (Stopped (refusal WrongWidth 3 0)) 2 1 0 0) [] None) (lent (drop 100 payment ++ ascii "\r\n"), tt)) })
   pub payroll_take_behind :
-      TellsOutcome (PayrollTakeSays (four κ)) (payroll (payroll_stream (payroll_state AtEnd 5 3 1 10000) [] (Answered (paid 1 10000))) (lent (ascii "x"), tt))
-      (record { answer = tt; exit = (payroll (payroll_stream (payroll_state AtEnd 5 3 1 10000) [] (Answered (refused (refusal BytesAfterTheEnd 6 0)))) (lent (ascii "x"), tt)) })
-      (record { answer = tt; exit = (payroll (payroll_stream (payroll_state AtEnd 5 3 1 10000) [] (Answered (paid 1 10000))) (lent (ascii "x"), tt)) })
+      TellsOutcome (PayrollTakeSays (four κ)) (payroll (payroll_stream (payroll_state AtEnd 5 3 1 10000) [] (Some (paid 1 10000))) (lent (ascii "x"), tt))
+      (record { answer = tt; exit = (payroll (payroll_stream (payroll_state AtEnd 5 3 1 10000) [] (Some (Err (refusal BytesAfterTheEnd 6 0)))) (lent (ascii "x"), tt)) })
+      (record { answer = tt; exit = (payroll (payroll_stream (payroll_state AtEnd 5 3 1 10000) [] (Some (paid 1 10000))) (lent (ascii "x"), tt)) })
   pub payroll_take_bytes :
-      TellsOutcome (PayrollTakeSays (four κ)) (payroll (payroll_stream (payroll_state In 2 1 0 0) [] GoingOn) (lent (ascii "x"), tt))
-      (record { answer = tt; exit = (payroll (payroll_stream (payroll_state In 2 1 0 0) (ascii "x") GoingOn) (lent (ascii "x"), tt)) })
-      (record { answer = tt; exit = (all (without_bytes (payroll_kept (payroll_stream (payroll_state In 2 1 0 0) (ascii "x") GoingOn))) (lent (ascii "x"), tt)) })
+      TellsOutcome (PayrollTakeSays (four κ)) (payroll (payroll_stream (payroll_state In 2 1 0 0) [] None) (lent (ascii "x"), tt))
+      (record { answer = tt; exit = (payroll (payroll_stream (payroll_state In 2 1 0 0) (ascii "x") None) (lent (ascii "x"), tt)) })
+      (record { answer = tt; exit = (all (without_bytes (payroll_kept (payroll_stream (payroll_state In 2 1 0 0) (ascii "x") None))) (lent (ascii "x"), tt)) })
   -- `lossivurn_payroll_stream_end`: a file that ends too early accepted; what waits let go
   pub payroll_end : OneKept (λ κs s. left s.0 s.1.0 s.1.1.0) PayrollEndSays
   pub payroll_end_early :
-      TellsOutcome (PayrollEndSays (three κ)) (payroll (payroll_stream (payroll_state BehindA 3 2 1 10000) [] GoingOn) tt)
-      (record { answer = tt; exit = (payroll (payroll_stream (payroll_state BehindA 3 2 1 10000) [] (Answered (refused (refusal EndsTooEarly 4 0)))) tt) })
-      (record { answer = tt; exit = (payroll (payroll_stream (payroll_state BehindA 3 2 1 10000) [] (Answered (paid 1 10000))) tt) })
+      TellsOutcome (PayrollEndSays (three κ)) (payroll (payroll_stream (payroll_state BehindA 3 2 1 10000) [] None) tt)
+      (record { answer = tt; exit = (payroll (payroll_stream (payroll_state BehindA 3 2 1 10000) [] (Some (Err (refusal EndsTooEarly 4 0)))) tt) })
+      (record { answer = tt; exit = (payroll (payroll_stream (payroll_state BehindA 3 2 1 10000) [] (Some (paid 1 10000))) tt) })
   pub payroll_end_held :
-      TellsOutcome (PayrollEndSays (three κ)) (payroll (payroll_stream (payroll_state AtEnd 5 3 1 10000) (ascii "x") GoingOn) tt)
-      (record { answer = tt; exit = (payroll (payroll_stream (payroll_state AtEnd 5 3 1 10000) (ascii "x") (Answered (refused (refusal BytesAfterTheEnd 6 0)))) tt) })
-      (record { answer = tt; exit = (payroll (payroll_stream (payroll_state AtEnd 5 3 1 10000) (ascii "x") (Answered (paid 1 10000))) tt) })
+      TellsOutcome (PayrollEndSays (three κ)) (payroll (payroll_stream (payroll_state AtEnd 5 3 1 10000) (ascii "x") None) tt)
+      (record { answer = tt; exit = (payroll (payroll_stream (payroll_state AtEnd 5 3 1 10000) (ascii "x") (Some (Err (refusal BytesAfterTheEnd 6 0)))) tt) })
+      (record { answer = tt; exit = (payroll (payroll_stream (payroll_state AtEnd 5 3 1 10000) (ascii "x") (Some (paid 1 10000))) tt) })
   -- `lossivurn_payroll_stream_answer`: accepted before the end; a refusal that shows only at the end
   pub payroll_answer_lem : OneOutcome (λ κs s. s.1.1.1.0.now) PayrollAnswerSays
   pub payroll_answer_early :
-      TellsOutcome (PayrollAnswerSays (three κ)) (asked (payroll_kept (payroll_stream (payroll_state AtEnd 5 3 1 10000) [] GoingOn)) (lent_mut (replicate 8 0), tt))
-      (record { answer = tt; exit = (asked (payroll_kept (payroll_stream (payroll_state AtEnd 5 3 1 10000) [] GoingOn)) (lent_mut (progress_numbers GoingOn), tt)) })
-      (record { answer = tt; exit = (asked (payroll_kept (payroll_stream (payroll_state AtEnd 5 3 1 10000) [] GoingOn)) (lent_mut (progress_numbers (Answered (paid 1 10000))), tt)) })
+      TellsOutcome (PayrollAnswerSays (three κ)) (asked (payroll_kept (payroll_stream (payroll_state AtEnd 5 3 1 10000) [] None)) (lent_mut (replicate 8 0), tt))
+      (record { answer = tt; exit = (asked (payroll_kept (payroll_stream (payroll_state AtEnd 5 3 1 10000) [] None)) (lent_mut (progress_numbers None), tt)) })
+      (record { answer = tt; exit = (asked (payroll_kept (payroll_stream (payroll_state AtEnd 5 3 1 10000) [] None)) (lent_mut (progress_numbers (Some (paid 1 10000))), tt)) })
   pub payroll_answer_late :
-      TellsOutcome (PayrollAnswerSays (three κ)) (asked (payroll_kept (payroll_stream (payroll_state (Stopped (refusal WrongWidth 3 0)) 2 1 0 0) [] GoingOn)) (lent_mut (replicate 8 0), tt))
-      (record { answer = tt; exit = (asked (payroll_kept (payroll_stream (payroll_state (Stopped (refusal WrongWidth 3 0)) 2 1 0 0) [] GoingOn)) (lent_mut (progress_numbers (Answered (refused (refusal WrongWidth 3 0)))), tt)) })
-      (record { answer = tt; exit = (asked (payroll_kept (payroll_stream (payroll_state (Stopped (refusal WrongWidth 3 0)) 2 1 0 0) [] GoingOn)) (lent_mut (progress_numbers GoingOn), tt)) })
+      TellsOutcome (PayrollAnswerSays (three κ)) (asked (payroll_kept (payroll_stream (payroll_state (Stopped (refusal WrongWidth 3 0)) 2 1 0 0) [] None)) (lent_mut (replicate 8 0), tt))
+      (record { answer = tt; exit = (asked (payroll_kept (payroll_stream (payroll_state (Stopped (refusal WrongWidth 3 0)) 2 1 0 0) [] None)) (lent_mut (progress_numbers (Some (Err (refusal WrongWidth 3 0)))), tt)) })
+      (record { answer = tt; exit = (asked (payroll_kept (payroll_stream (payroll_state (Stopped (refusal WrongWidth 3 0)) 2 1 0 0) [] None)) (lent_mut (progress_numbers None), tt)) })

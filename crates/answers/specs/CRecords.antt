@@ -1,14 +1,11 @@
 -- What the contracts of a file that C gives record by record are held to. Behind a function's name: the wrong programs that are ruled out.
-use Rattle.std.specs.Prelude.{ℕ, List, [], ◌∷◌, replicate}
+use Rattle.std.specs.Prelude.{ℕ, List, [], ◌∷◌, replicate, Err, None, Some}
 use Rattle.std.specs.Borrow.{Bor, MutBor}
 use Rattle.text.specs.Literal.{ascii}
 use Rattle.refusal.specs.declared.Cause.TheVariants.{EditionUnknown, KindUnknown, WrongWidth, EndsTooEarly, BytesAfterTheEnd}
 use Rattle.card_run.specs.declared.stage.Stage.TheVariants.{Start, InBatch, Ended, Closed, Refused}
 use Rattle.card_run.specs.declared.running.Running.{Running}
-use Rattle.card_run.specs.declared.answer.CardAnswer.TheVariants.{GoingOn as card_goes_on}
 use Rattle.payroll_run.specs.declared.stage.Stage.TheVariants.{Start as AtStart, InBatch as In, BehindA, Ended as AtEnd, Refused as Stopped}
-use Rattle.payroll_file.specs.declared.answer.PayrollAnswer.TheVariants.{Refused as refused}
-use Rattle.payroll_stream.specs.declared.Progress.TheVariants.{GoingOn, Answered}
 use Rattle.payroll_stream.specs.declared.feeding.Feeding.{Feeding}
 use Rattle.answer_rows.specs.Card.{card_numbers}
 use Rattle.answer_rows.specs.Payroll.{progress_numbers}
@@ -75,11 +72,11 @@ unwritten size = lent_mut (replicate size 0)
 
 -- a payroll file that has ended and is not closed
 abbrev ended : Feeding
-ended = feeding (payroll_state AtEnd 5 3 1 10000) GoingOn
+ended = feeding (payroll_state AtEnd 5 3 1 10000) None
 
 -- and one that is closed, and accepted
 abbrev closed : Feeding
-closed = feeding (payroll_state AtEnd 5 3 1 10000) (Answered (paid 1 10000))
+closed = feeding (payroll_state AtEnd 5 3 1 10000) (Some (paid 1 10000))
 
 pub record CRecords (κ : Lft) : Type 0 where
   -- `lossivurn_card_open`: an edition cut down to a byte; the state of the file before left in place
@@ -116,7 +113,7 @@ pub record CRecords (κ : Lft) : Type 0 where
   pub card_answer_lem : OneOutcome (λ κs s. s.1.0.now) CardAnswerSays
   pub card_answer_early :
       TellsOutcome (CardAnswerSays (two κ)) (card_asked (state Ended 5 one_sale), (unwritten 20, tt))
-      (record { answer = tt; exit = (card_asked (state Ended 5 one_sale), (lent_mut (card_numbers card_goes_on), tt)) })
+      (record { answer = tt; exit = (card_asked (state Ended 5 one_sale), (lent_mut (card_numbers None), tt)) })
       (record { answer = tt; exit = (card_asked (state Ended 5 one_sale), (lent_mut (card_numbers (accepted 5 0 one_sale)), tt)) })
   pub card_answer_zeros :
       TellsOutcome (CardAnswerSays (two κ)) (lent (replicate 24 0), (unwritten 20, tt))
@@ -126,27 +123,27 @@ pub record CRecords (κ : Lft) : Type 0 where
   pub payroll_open : OneOutcome (λ κs s. s.0.now) PayrollOpenSays
   pub payroll_open_counted :
       TellsOutcome (PayrollOpenSays (one κ)) (unwritten 20, tt)
-      (record { answer = tt; exit = (payroll (feeding (payroll_opened AtStart) GoingOn), tt) })
-      (record { answer = tt; exit = (payroll (feeding (payroll_state AtStart 1 0 0 0) GoingOn), tt) })
+      (record { answer = tt; exit = (payroll (feeding (payroll_opened AtStart) None), tt) })
+      (record { answer = tt; exit = (payroll (feeding (payroll_state AtStart 1 0 0 0) None), tt) })
   pub payroll_open_left :
       TellsOutcome (PayrollOpenSays (one κ)) (payroll closed, tt)
-      (record { answer = tt; exit = (payroll (feeding (payroll_opened AtStart) GoingOn), tt) })
+      (record { answer = tt; exit = (payroll (feeding (payroll_opened AtStart) None), tt) })
       (record { answer = tt; exit = (payroll closed, tt) })
   -- `lossivurn_payroll_feed`: a state that stays as it was; a record behind an accepted close passed over
   pub payroll_feed : OneOutcome (λ κs s. s.0.now) PayrollFeedSays
   pub payroll_feed_left :
-      TellsOutcome (PayrollFeedSays (two κ)) (payroll (feeding (payroll_state In 2 1 0 0) GoingOn), (lent payment, tt))
-      (record { answer = tt; exit = (payroll (feeding (payroll_state BehindA 3 2 1 10000) GoingOn), (lent payment, tt)) })
-      (record { answer = tt; exit = (payroll (feeding (payroll_state In 2 1 0 0) GoingOn), (lent payment, tt)) })
+      TellsOutcome (PayrollFeedSays (two κ)) (payroll (feeding (payroll_state In 2 1 0 0) None), (lent payment, tt))
+      (record { answer = tt; exit = (payroll (feeding (payroll_state BehindA 3 2 1 10000) None), (lent payment, tt)) })
+      (record { answer = tt; exit = (payroll (feeding (payroll_state In 2 1 0 0) None), (lent payment, tt)) })
   pub payroll_feed_behind :
       TellsOutcome (PayrollFeedSays (two κ)) (payroll closed, (lent payment, tt))
-      (record { answer = tt; exit = (payroll (feeding (payroll_state AtEnd 5 3 1 10000) (Answered (refused (refusal BytesAfterTheEnd 6 0)))), (lent payment, tt)) })
+      (record { answer = tt; exit = (payroll (feeding (payroll_state AtEnd 5 3 1 10000) (Some (Err (refusal BytesAfterTheEnd 6 0)))), (lent payment, tt)) })
       (record { answer = tt; exit = (payroll closed, (lent payment, tt)) })
   -- `lossivurn_payroll_close`: the byte 1A optional; a state that stays as it was
   pub payroll_close : OneOutcome (λ κs s. s.0.now) PayrollCloseSays
   pub payroll_close_optional :
       TellsOutcome (PayrollCloseSays (two κ)) (payroll ended, (lent [], tt))
-      (record { answer = tt; exit = (payroll (feeding (payroll_state AtEnd 5 3 1 10000) (Answered (refused (refusal EndsTooEarly 6 0)))), (lent [], tt)) })
+      (record { answer = tt; exit = (payroll (feeding (payroll_state AtEnd 5 3 1 10000) (Some (Err (refusal EndsTooEarly 6 0)))), (lent [], tt)) })
       (record { answer = tt; exit = (payroll closed, (lent [], tt)) })
   pub payroll_close_left :
       TellsOutcome (PayrollCloseSays (two κ)) (payroll ended, (lent (ascii "\u{1a}"), tt))
@@ -156,9 +153,9 @@ pub record CRecords (κ : Lft) : Type 0 where
   pub payroll_answer_lem : OneOutcome (λ κs s. s.1.0.now) PayrollAnswerSays
   pub payroll_answer_early :
       TellsOutcome (PayrollAnswerSays (two κ)) (payroll_asked ended, (unwritten 8, tt))
-      (record { answer = tt; exit = (payroll_asked ended, (lent_mut (progress_numbers GoingOn), tt)) })
-      (record { answer = tt; exit = (payroll_asked ended, (lent_mut (progress_numbers (Answered (paid 1 10000))), tt)) })
+      (record { answer = tt; exit = (payroll_asked ended, (lent_mut (progress_numbers None), tt)) })
+      (record { answer = tt; exit = (payroll_asked ended, (lent_mut (progress_numbers (Some (paid 1 10000))), tt)) })
   pub payroll_answer_late :
-      TellsOutcome (PayrollAnswerSays (two κ)) (payroll_asked (feeding (payroll_state (Stopped (refusal WrongWidth 3 0)) 2 1 0 0) GoingOn), (unwritten 8, tt))
-      (record { answer = tt; exit = (payroll_asked (feeding (payroll_state (Stopped (refusal WrongWidth 3 0)) 2 1 0 0) GoingOn), (lent_mut (progress_numbers (Answered (refused (refusal WrongWidth 3 0)))), tt)) })
-      (record { answer = tt; exit = (payroll_asked (feeding (payroll_state (Stopped (refusal WrongWidth 3 0)) 2 1 0 0) GoingOn), (lent_mut (progress_numbers GoingOn), tt)) })
+      TellsOutcome (PayrollAnswerSays (two κ)) (payroll_asked (feeding (payroll_state (Stopped (refusal WrongWidth 3 0)) 2 1 0 0) None), (unwritten 8, tt))
+      (record { answer = tt; exit = (payroll_asked (feeding (payroll_state (Stopped (refusal WrongWidth 3 0)) 2 1 0 0) None), (lent_mut (progress_numbers (Some (Err (refusal WrongWidth 3 0)))), tt)) })
+      (record { answer = tt; exit = (payroll_asked (feeding (payroll_state (Stopped (refusal WrongWidth 3 0)) 2 1 0 0) None), (lent_mut (progress_numbers None), tt)) })

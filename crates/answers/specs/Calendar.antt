@@ -1,9 +1,7 @@
 -- What the contracts of `calendar` are held to. Behind a function's name: the wrong programs that are ruled out.
-use Rattle.std.specs.Prelude.{ℕ, ◌+◌, ◌-◌, true, false}
+use Rattle.std.specs.Prelude.{ℕ, ◌+◌, ◌-◌, true, false, Err, Ok}
 use Rattle.text.specs.Literal.{ascii}
 use Rattle.refusal.specs.declared.Cause.TheVariants.{ByteNotAllowed, ValueNotAllowed}
-use Rattle.refusal.specs.declared.Fault.TheVariants.{Nothing, At as FaultAt}
-use Rattle.calendar.specs.declared.when.When.TheVariants.{NotDigits, NoSuch, At}
 use base.Fml.{Lft}
 use Rattle.calendar.specs.contracts.month.leap as Leap
 use Rattle.calendar.specs.contracts.month.days_in as DaysIn
@@ -12,9 +10,11 @@ use Rattle.calendar.specs.contracts.day.year_first as YearFirst
 use Rattle.calendar.specs.contracts.day.day_first as DayFirst
 use Rattle.calendar.specs.contracts.time.is_time as IsTime
 use Rattle.calendar.specs.contracts.time.time_of as TimeOf
-use Rattle.calendar.specs.contracts.when.When.fault as Fault
+use Rattle.calendar.specs.contracts.when.fault_of as Fault
 use borrow.Fn.Read.{r_last}
 use Rattle.answers.specs.Held.{Claim, fact_of, logic, memory, run, OneAnswer, Tells, lent, one}
+use Rattle.refusal.specs.Fault.{at, nothing}
+use Rattle.calendar.specs.declared.when.Unreadable.TheVariants.{NoSuch, NotDigits}
 
 -- what each contract says
 abbrev LeapSays : Claim Leap.ended
@@ -75,22 +75,22 @@ pub record Calendar (κ : Lft) : Type 0 where
   pub is_day_2099 : Tells (IsDaySays tt) (20991231, tt) true false
   -- `year_first`: the day read first; 8 before 7; a ninth digit passed over
   pub year_first_lem : OneAnswer YearFirstSays
-  pub year_first_turned : Tells (YearFirstSays (one κ)) (lent (ascii "29022024"), tt) NoSuch (At 20240229)
-  pub year_first_dashes : Tells (YearFirstSays (one κ)) (lent (ascii "2024-2-9"), tt) NotDigits NoSuch
-  pub year_first_nine : Tells (YearFirstSays (one κ)) (lent (ascii "020240229"), tt) NoSuch (At 20240229)
+  pub year_first_turned : Tells (YearFirstSays (one κ)) (lent (ascii "29022024"), tt) (Err NoSuch) (Ok 20240229)
+  pub year_first_dashes : Tells (YearFirstSays (one κ)) (lent (ascii "2024-2-9"), tt) (Err NotDigits) (Err NoSuch)
+  pub year_first_nine : Tells (YearFirstSays (one κ)) (lent (ascii "020240229"), tt) (Err NoSuch) (Ok 20240229)
   -- `day_first`: not turned round; the year read first
   pub day_first_lem : OneAnswer DayFirstSays
-  pub day_first_unturned : Tells (DayFirstSays (one κ)) (lent (ascii "29022024"), tt) (At 20240229) (At 29022024)
-  pub day_first_turned : Tells (DayFirstSays (one κ)) (lent (ascii "20240229"), tt) NoSuch (At 20240229)
+  pub day_first_unturned : Tells (DayFirstSays (one κ)) (lent (ascii "29022024"), tt) (Ok 20240229) (Ok 29022024)
+  pub day_first_turned : Tells (DayFirstSays (one κ)) (lent (ascii "20240229"), tt) (Err NoSuch) (Ok 20240229)
   -- `is_time`: minute 60; hour 24
   pub is_time_lem : OneAnswer IsTimeSays
   pub is_time_minute : Tells (IsTimeSays tt) (116000, tt) false true
   pub is_time_hour : Tells (IsTimeSays tt) (240000, tt) false true
   -- `time_of`: second 60; hours and minutes alone
   pub time_of_lem : OneAnswer TimeOfSays
-  pub time_of_second : Tells (TimeOfSays (one κ)) (lent (ascii "235960"), tt) NoSuch (At 235960)
-  pub time_of_four : Tells (TimeOfSays (one κ)) (lent (ascii "1200"), tt) NoSuch (At 1200)
-  -- `When::fault`: 8 for what is no digit; no fault for a day that is none
+  pub time_of_second : Tells (TimeOfSays (one κ)) (lent (ascii "235960"), tt) (Err NoSuch) (Ok 235960)
+  pub time_of_four : Tells (TimeOfSays (one κ)) (lent (ascii "1200"), tt) (Err NoSuch) (Ok 1200)
+  -- `fault_of`: 8 for what is no digit; no fault for a day that is none
   pub fault : OneAnswer FaultSays
-  pub fault_eight : Tells (FaultSays tt) (NotDigits, (9, tt)) (FaultAt ByteNotAllowed 9) (FaultAt ValueNotAllowed 9)
-  pub fault_none : Tells (FaultSays tt) (NoSuch, (9, tt)) (FaultAt ValueNotAllowed 9) Nothing
+  pub fault_eight : Tells (FaultSays tt) ((Err NotDigits), (9, tt)) (at ByteNotAllowed 9) (at ValueNotAllowed 9)
+  pub fault_none : Tells (FaultSays tt) ((Err NoSuch), (9, tt)) (at ValueNotAllowed 9) nothing

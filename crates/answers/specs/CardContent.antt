@@ -2,7 +2,6 @@
 use Rattle.std.specs.Prelude.{true, false}
 use Rattle.text.specs.Literal.{ascii}
 use Rattle.refusal.specs.declared.Cause.TheVariants.{ByteNotAllowed, ValueNotAllowed, AmountsDisagree}
-use Rattle.refusal.specs.declared.Fault.TheVariants.{Nothing, At}
 use Rattle.card_content.specs.declared.content.Content.TheVariants.{Digits, Text, Day, DayOrZeros, Card, CardOrBlanks, OneOf}
 use Rattle.card_content.specs.declared.content.ClosedSet.TheVariants.{Version, Currency, Product, Capture, AdjustmentCapture, AdjustmentType}
 use Rattle.card_content.specs.Field.{field}
@@ -17,6 +16,7 @@ use Rattle.card_content.specs.contracts.field.Field.number as Number
 use Rattle.card_content.specs.contracts.field.Field.rule as Rule
 use borrow.Fn.Read.{r_last}
 use Rattle.answers.specs.Held.{Claim, fact_of, logic, memory, run, OneAnswer, OnePart, Tells, lent, part, one}
+use Rattle.refusal.specs.Fault.{at as fault_at, nothing}
 
 -- what each contract says
 abbrev IsInSetSays : Claim IsInSet.ended
@@ -51,37 +51,37 @@ pub record CardContent (κ : Lft) : Type 0 where
   pub set_adjustment_type : Tells (IsInSetSays (one κ)) (AdjustmentType, (2, (lent (ascii "0"), tt))) false true
   -- `fault_of`: 7 for a closed set; a star in the card refused; a day that is none taken
   pub fault_of_lem : OneAnswer FaultOfSays
-  pub fault_of_set : Tells (FaultOfSays (one κ)) (OneOf Product, (2, (53, (lent (ascii "X"), tt)))) (At ValueNotAllowed 53) (At ByteNotAllowed 53)
-  pub fault_of_card : Tells (FaultOfSays (one κ)) (Card, (2, (88, (lent (ascii "000123456****123456"), tt)))) Nothing (At ByteNotAllowed 88)
-  pub fault_of_day : Tells (FaultOfSays (one κ)) (Day, (2, (30, (lent (ascii "20230229"), tt)))) (At ValueNotAllowed 30) Nothing
+  pub fault_of_set : Tells (FaultOfSays (one κ)) (OneOf Product, (2, (53, (lent (ascii "X"), tt)))) (fault_at ValueNotAllowed 53) (fault_at ByteNotAllowed 53)
+  pub fault_of_card : Tells (FaultOfSays (one κ)) (Card, (2, (88, (lent (ascii "000123456****123456"), tt)))) nothing (fault_at ByteNotAllowed 88)
+  pub fault_of_day : Tells (FaultOfSays (one κ)) (Day, (2, (30, (lent (ascii "20230229"), tt)))) (fault_at ValueNotAllowed 30) nothing
   -- AN: 127 and 159 taken, 160 refused; an accent taken in a card, a product and a currency
-  pub fault_of_127 : Tells (FaultOfSays (one κ)) (Text, (2, (188, (lent (ascii "PA\u{7f}"), tt)))) (At ByteNotAllowed 188) Nothing
-  pub fault_of_159 : Tells (FaultOfSays (one κ)) (Text, (2, (188, (lent (ascii "PA\u{9f}"), tt)))) (At ByteNotAllowed 188) Nothing
-  pub fault_of_160 : Tells (FaultOfSays (one κ)) (Text, (2, (188, (lent (ascii "PA\u{a0}"), tt)))) Nothing (At ByteNotAllowed 188)
-  pub fault_of_accent_card : Tells (FaultOfSays (one κ)) (Card, (2, (88, (lent (ascii "000123456é890123456"), tt)))) (At ByteNotAllowed 88) Nothing
-  pub fault_of_accent_product : Tells (FaultOfSays (one κ)) (OneOf Product, (2, (53, (lent (ascii "Ç"), tt)))) (At ValueNotAllowed 53) Nothing
-  pub fault_of_accent_currency : Tells (FaultOfSays (one κ)) (OneOf Currency, (2, (11, (lent (ascii "RÉ"), tt)))) (At ValueNotAllowed 11) Nothing
+  pub fault_of_127 : Tells (FaultOfSays (one κ)) (Text, (2, (188, (lent (ascii "PA\u{7f}"), tt)))) (fault_at ByteNotAllowed 188) nothing
+  pub fault_of_159 : Tells (FaultOfSays (one κ)) (Text, (2, (188, (lent (ascii "PA\u{9f}"), tt)))) (fault_at ByteNotAllowed 188) nothing
+  pub fault_of_160 : Tells (FaultOfSays (one κ)) (Text, (2, (188, (lent (ascii "PA\u{a0}"), tt)))) nothing (fault_at ByteNotAllowed 188)
+  pub fault_of_accent_card : Tells (FaultOfSays (one κ)) (Card, (2, (88, (lent (ascii "000123456é890123456"), tt)))) (fault_at ByteNotAllowed 88) nothing
+  pub fault_of_accent_product : Tells (FaultOfSays (one κ)) (OneOf Product, (2, (53, (lent (ascii "Ç"), tt)))) (fault_at ValueNotAllowed 53) nothing
+  pub fault_of_accent_currency : Tells (FaultOfSays (one κ)) (OneOf Currency, (2, (11, (lent (ascii "RÉ"), tt)))) (fault_at ValueNotAllowed 11) nothing
   -- where zeros are a day: zeros refused, a day that is none taken; where they are none: zeros taken
-  pub fault_of_zeros : Tells (FaultOfSays (one κ)) (DayOrZeros, (2, (30, (lent (ascii "00000000"), tt)))) Nothing (At ValueNotAllowed 30)
-  pub fault_of_no_day : Tells (FaultOfSays (one κ)) (DayOrZeros, (2, (30, (lent (ascii "20230229"), tt)))) (At ValueNotAllowed 30) Nothing
-  pub fault_of_no_zeros : Tells (FaultOfSays (one κ)) (Day, (2, (52, (lent (ascii "00000000"), tt)))) (At ValueNotAllowed 52) Nothing
+  pub fault_of_zeros : Tells (FaultOfSays (one κ)) (DayOrZeros, (2, (30, (lent (ascii "00000000"), tt)))) nothing (fault_at ValueNotAllowed 30)
+  pub fault_of_no_day : Tells (FaultOfSays (one κ)) (DayOrZeros, (2, (30, (lent (ascii "20230229"), tt)))) (fault_at ValueNotAllowed 30) nothing
+  pub fault_of_no_zeros : Tells (FaultOfSays (one κ)) (Day, (2, (52, (lent (ascii "00000000"), tt)))) (fault_at ValueNotAllowed 52) nothing
   -- where blanks are a card: blanks refused, digits and blanks taken; where they are none: blanks taken
-  pub fault_of_blanks : Tells (FaultOfSays (one κ)) (CardOrBlanks, (2, (163, (lent (ascii blank_card), tt)))) Nothing (At ByteNotAllowed 163)
-  pub fault_of_mixed : Tells (FaultOfSays (one κ)) (CardOrBlanks, (2, (163, (lent (ascii "   1234567890123456"), tt)))) (At ByteNotAllowed 163) Nothing
-  pub fault_of_no_blanks : Tells (FaultOfSays (one κ)) (Card, (2, (88, (lent (ascii blank_card), tt)))) (At ByteNotAllowed 88) Nothing
+  pub fault_of_blanks : Tells (FaultOfSays (one κ)) (CardOrBlanks, (2, (163, (lent (ascii blank_card), tt)))) nothing (fault_at ByteNotAllowed 163)
+  pub fault_of_mixed : Tells (FaultOfSays (one κ)) (CardOrBlanks, (2, (163, (lent (ascii "   1234567890123456"), tt)))) (fault_at ByteNotAllowed 163) nothing
+  pub fault_of_no_blanks : Tells (FaultOfSays (one κ)) (Card, (2, (88, (lent (ascii blank_card), tt)))) (fault_at ByteNotAllowed 88) nothing
   -- `Field::part`: a column late; other bytes with the same content
   pub parts : OnePart PartSays
   pub part_late : Tells (PartSays (one κ)) (field 3 8 Digits, (lent l9, tt)) (part 2 (ascii "000001")) (part 3 (ascii "000010"))
   pub part_elsewhere : Tells (PartSays (one κ)) (field 107 108 Digits, (lent sale, tt)) (part 106 (ascii "00")) (part 108 (ascii "00"))
   -- `Field::fault`: the edition not looked at; the last position as the column
   pub fault : OneAnswer FaultSays
-  pub fault_edition : Tells (FaultSays (one κ)) (field 54 54 (OneOf Capture), (3, (lent sale, tt))) (At ValueNotAllowed 54) Nothing
-  pub fault_column_lem : Tells (FaultSays (one κ)) (field 77 87 Digits, (2, (lent (at 80 "x" sale), tt))) (At ByteNotAllowed 77) (At ByteNotAllowed 87)
+  pub fault_edition : Tells (FaultSays (one κ)) (field 54 54 (OneOf Capture), (3, (lent sale, tt))) (fault_at ValueNotAllowed 54) nothing
+  pub fault_column_lem : Tells (FaultSays (one κ)) (field 77 87 Digits, (2, (lent (at 80 "x" sale), tt))) (fault_at ByteNotAllowed 77) (fault_at ByteNotAllowed 87)
   -- `Field::number`: the last digit left out; the neighbour's number
   pub number : OneAnswer NumberSays
   pub number_cut : Tells (NumberSays (one κ)) (field 77 87 Digits, (lent sale, tt)) 9750 975
   pub number_neighbour : Tells (NumberSays (one κ)) (field 77 87 Digits, (lent sale, tt)) 9750 250
   -- `Field::rule`: a place counted from 0; a fault where the rule holds
   pub rule : OneAnswer RuleSays
-  pub rule_column : Tells (RuleSays tt) (field 77 87 Digits, (AmountsDisagree, (false, tt))) (At AmountsDisagree 77) (At AmountsDisagree 76)
-  pub rule_held : Tells (RuleSays tt) (field 77 87 Digits, (AmountsDisagree, (true, tt))) Nothing (At AmountsDisagree 77)
+  pub rule_column : Tells (RuleSays tt) (field 77 87 Digits, (AmountsDisagree, (false, tt))) (fault_at AmountsDisagree 77) (fault_at AmountsDisagree 76)
+  pub rule_held : Tells (RuleSays tt) (field 77 87 Digits, (AmountsDisagree, (true, tt))) nothing (fault_at AmountsDisagree 77)

@@ -1,5 +1,5 @@
 -- What the contracts of a card file, step by step, whole and in chunks, are held to. Behind a function's name: the wrong programs that are ruled out.
-use Rattle.std.specs.Prelude.{ℕ, List, [], ◌∷◌, ◌++◌, take, drop, replicate}
+use Rattle.std.specs.Prelude.{ℕ, List, [], ◌∷◌, ◌++◌, take, drop, replicate, Err, None, Ok, Some}
 use Rattle.text.specs.Literal.{ascii}
 use Rattle.refusal.specs.declared.Cause.TheVariants.{
   EditionUnknown,
@@ -21,7 +21,6 @@ use Rattle.chunks.specs.Unfinished.{holding}
 use Rattle.chunks.specs.declared.Unfinished.{Unfinished}
 use Rattle.card_run.specs.declared.stage.Stage.TheVariants.{Start, BetweenBatches, InBatch, Ended, Closed, Refused}
 use Rattle.card_run.specs.declared.running.Running.{Running}
-use Rattle.card_run.specs.declared.answer.CardAnswer.TheVariants.{GoingOn, Accepted, Refused as refused}
 use Rattle.card_stream.specs.declared.Stream.{Stream}
 use Rattle.card_record.specs.declared.reading.Reading.TheVariants.{Cv as sale_read, Aj as adjustment_read}
 use Rattle.answers.specs.Totals.{amounts, settled, forecast}
@@ -51,6 +50,7 @@ use Rattle.card_file.specs.contracts.feed as Feed
 use Rattle.card_file.specs.contracts.room.check_with_room as WithRoom
 use Rattle.card_file.specs.contracts.take_line as TakeLine
 use Rattle.card_file.specs.contracts.no_line_end as NoLineEndOf
+use Rattle.card_file.specs.contracts.end as EndOf
 use Rattle.card_file.specs.contracts.check as Check
 use Rattle.card_stream.specs.contracts.Stream.open as StreamOpen
 use Rattle.card_stream.specs.contracts.Stream.take as StreamTake
@@ -71,6 +71,9 @@ FeedSays κs a r s = fact_of ((Feed.clauses logic memory run κs a).ensures tt r
 
 abbrev WithRoomSays : Claim WithRoom.ended
 WithRoomSays κs a r s = fact_of ((WithRoom.clauses logic memory run κs a).ensures tt r s) (r_last _)
+
+abbrev EndOfSays : Claim EndOf.ended
+EndOfSays κs a r s = fact_of ((EndOf.clauses logic memory run κs a).ensures tt r s) (r_last _)
 
 abbrev TakeLineSays : Claim TakeLine.ended
 TakeLineSays κs a r s = fact_of ((TakeLine.clauses logic memory run κs a).ensures tt r s) (r_last _)
@@ -154,34 +157,38 @@ pub record CardFile (κ : Lft) : Type 0 where
   pub no_line_end : OneAnswer NoLineEndOfSays
   pub no_line_end_behind_a9 : Tells (NoLineEndOfSays tt) (state Ended 5 one_sale, tt) (state (Refused (refusal BytesAfterTheEnd 6 0)) 5 one_sale) (state (Refused (refusal NoLineEnd 6 0)) 5 one_sale)
   pub no_line_end_early : Tells (NoLineEndOfSays tt) (state InBatch 3 one_sale, tt) (state (Refused (refusal NoLineEnd 4 0)) 3 one_sale) (state (Refused (refusal EndsTooEarly 4 0)) 3 one_sale)
+  -- `end`: a file closed with bytes left; 3 where nothing is left
+  pub end_of : OneAnswer EndOfSays
+  pub end_passed_over : Tells (EndOfSays (one κ)) (state Ended 5 one_sale, (lent (ascii "x"), tt)) (state (Refused (refusal BytesAfterTheEnd 6 0)) 5 one_sale) (state Closed 5 one_sale)
+  pub end_unended : Tells (EndOfSays (one κ)) (state InBatch 3 one_sale, (lent [], tt)) (state (Refused (refusal EndsTooEarly 4 0)) 3 one_sale) (state (Refused (refusal NoLineEnd 4 0)) 3 one_sale)
   -- `check`: every file refused; a made-up count; one accepted answer for all files
   pub check : OneAnswer CheckSays
-  pub check_refused : Tells (CheckSays (one κ)) (2, (lent card_file, tt)) (accepted 5 1 one_sale) (refused (refusal EndsTooEarly 6 0))
+  pub check_refused : Tells (CheckSays (one κ)) (2, (lent card_file, tt)) (accepted 5 1 one_sale) (Some (Err (refusal EndsTooEarly 6 0)))
   pub check_count : Tells (CheckSays (one κ)) (2, (lent card_file, tt)) (accepted 5 1 one_sale) (accepted 5 1 (settled 2 (amounts 10000 250 9750)))
-  pub check_one_answer : Tells (CheckSays (one κ)) (2, (lent [], tt)) (refused (refusal EndsTooEarly 1 0)) (accepted 5 1 one_sale)
+  pub check_one_answer : Tells (CheckSays (one κ)) (2, (lent [], tt)) (Some (Err (refusal EndsTooEarly 1 0))) (accepted 5 1 one_sale)
   -- a forecast told as settled; launch type 2 told as forecast; the sale's amounts where a forecast of an instalment is payable
   pub check_forecast : Tells (CheckSays (one κ)) (2, (lent (file_of (at 44 "0" sale)), tt)) (accepted 5 1 one_forecast) (accepted 5 1 one_sale)
   pub check_advanced : Tells (CheckSays (one κ)) (2, (lent (file_of (at 44 "2" sale)), tt)) (accepted 5 1 one_sale) (accepted 5 1 one_forecast)
   pub check_instalment : Tells (CheckSays (one κ)) (2, (lent (joined (a0 ∷ l0 ∷ at 44 "0" (at 107 "0102" (at 123 "000000040000000000010000000003900" sale)) ∷ at 9 "00000000004000" l9 ∷ a9 ∷ [])), tt)) (accepted 5 1 (forecast 1 (amounts 4000 100 3900))) (accepted 5 1 one_forecast)
   -- a look at the first record alone; an edition cut down to a byte; the edition by the version string; capture 7 judged under edition 1; what stands behind A9 passed over
-  pub check_first_record : Tells (CheckSays (one κ)) (2, (lent (file_of (at 194 "000004" sale)), tt)) (refused (refusal SequenceWrong 3 194)) (accepted 5 1 one_sale)
-  pub check_258 : Tells (CheckSays (one κ)) (258, (lent card_file, tt)) (refused (refusal EditionUnknown 0 0)) (accepted 5 1 one_sale)
-  pub check_version : Tells (CheckSays (one κ)) (1, (lent card_file, tt)) (refused (refusal EditionRetired 0 0)) (accepted 5 1 one_sale)
-  pub check_capture : Tells (CheckSays (one κ)) (1, (lent (file_of (at 54 "7" sale)), tt)) (refused (refusal EditionRetired 0 0)) (refused (refusal ValueNotAllowed 3 54))
-  pub check_behind_a9 : Tells (CheckSays (one κ)) (2, (lent (card_file ++ ascii "\n"), tt)) (refused (refusal BytesAfterTheEnd 6 0)) (accepted 5 1 one_sale)
+  pub check_first_record : Tells (CheckSays (one κ)) (2, (lent (file_of (at 194 "000004" sale)), tt)) (Some (Err (refusal SequenceWrong 3 194))) (accepted 5 1 one_sale)
+  pub check_258 : Tells (CheckSays (one κ)) (258, (lent card_file, tt)) (Some (Err (refusal EditionUnknown 0 0))) (accepted 5 1 one_sale)
+  pub check_version : Tells (CheckSays (one κ)) (1, (lent card_file, tt)) (Some (Err (refusal EditionRetired 0 0))) (accepted 5 1 one_sale)
+  pub check_capture : Tells (CheckSays (one κ)) (1, (lent (file_of (at 54 "7" sale)), tt)) (Some (Err (refusal EditionRetired 0 0))) (Some (Err (refusal ValueNotAllowed 3 54)))
+  pub check_behind_a9 : Tells (CheckSays (one κ)) (2, (lent (card_file ++ ascii "\n"), tt)) (Some (Err (refusal BytesAfterTheEnd 6 0))) (accepted 5 1 one_sale)
   -- a header refused for its accents; one that holds 159 taken
-  pub check_accents : Tells (CheckSays (one κ)) (2, (lent (joined (at 29 "ESTAÇÃO" a0 ∷ l0 ∷ sale ∷ l9 ∷ a9 ∷ [])), tt)) (accepted 5 1 one_sale) (refused (refusal ByteNotAllowed 1 29))
-  pub check_159 : Tells (CheckSays (one κ)) (2, (lent (joined (at 29 "ESTA\u{9f}" a0 ∷ l0 ∷ sale ∷ l9 ∷ a9 ∷ [])), tt)) (refused (refusal ByteNotAllowed 1 29)) (accepted 5 1 one_sale)
+  pub check_accents : Tells (CheckSays (one κ)) (2, (lent (joined (at 29 "ESTAÇÃO" a0 ∷ l0 ∷ sale ∷ l9 ∷ a9 ∷ [])), tt)) (accepted 5 1 one_sale) (Some (Err (refusal ByteNotAllowed 1 29)))
+  pub check_159 : Tells (CheckSays (one κ)) (2, (lent (joined (at 29 "ESTA\u{9f}" a0 ∷ l0 ∷ sale ∷ l9 ∷ a9 ∷ [])), tt)) (Some (Err (refusal ByteNotAllowed 1 29))) (accepted 5 1 one_sale)
   -- a file with an adjustment: refused as unknown; the credit forgotten; an adjustment before L0 taken
-  pub check_adjusted : Tells (CheckSays (one κ)) (2, (lent adjusted_file, tt)) (Accepted (numbers_with 6 1 one_sale (adjusted 1 975) (adjusted 0 0))) (refused (refusal KindUnknown 4 1))
-  pub check_credit : Tells (CheckSays (one κ)) (2, (lent adjusted_file, tt)) (Accepted (numbers_with 6 1 one_sale (adjusted 1 975) (adjusted 0 0))) (accepted 6 1 one_sale)
-  pub check_before_l0 : Tells (CheckSays (one κ)) (2, (lent (joined (a0 ∷ at 188 "000002" credit ∷ at 3 "000003000003" a9 ∷ [])), tt)) (refused (refusal KindNotAllowedHere 2 0)) (Accepted (numbers_with 3 0 no_sale (adjusted 1 975) (adjusted 0 0)))
+  pub check_adjusted : Tells (CheckSays (one κ)) (2, (lent adjusted_file, tt)) (Some (Ok (numbers_with 6 1 one_sale (adjusted 1 975) (adjusted 0 0)))) (Some (Err (refusal KindUnknown 4 1)))
+  pub check_credit : Tells (CheckSays (one κ)) (2, (lent adjusted_file, tt)) (Some (Ok (numbers_with 6 1 one_sale (adjusted 1 975) (adjusted 0 0)))) (accepted 6 1 one_sale)
+  pub check_before_l0 : Tells (CheckSays (one κ)) (2, (lent (joined (a0 ∷ at 188 "000002" credit ∷ at 3 "000003000003" a9 ∷ [])), tt)) (Some (Err (refusal KindNotAllowedHere 2 0))) (Some (Ok (numbers_with 3 0 no_sale (adjusted 1 975) (adjusted 0 0))))
   -- `check_with_room`: 2 before 1, and before 22; the file's own refusal before 2; a byte more asked for than is needed
   pub with_room : OneAnswer WithRoomSays
-  pub with_room_edition : Tells (WithRoomSays (one κ)) (3, (lent card_file, (52, (0, tt)))) (refused (refusal EditionUnknown 0 0)) (refused (refusal OutputTooShort 0 0))
-  pub with_room_retired : Tells (WithRoomSays (one κ)) (1, (lent card_file, (52, (0, tt)))) (refused (refusal EditionRetired 0 0)) (refused (refusal OutputTooShort 0 0))
-  pub with_room_first : Tells (WithRoomSays (one κ)) (2, (lent [], (52, (51, tt)))) (refused (refusal OutputTooShort 0 0)) (refused (refusal EndsTooEarly 1 0))
-  pub with_room_exact : Tells (WithRoomSays (one κ)) (2, (lent card_file, (52, (52, tt)))) (accepted 5 1 one_sale) (refused (refusal OutputTooShort 0 0))
+  pub with_room_edition : Tells (WithRoomSays (one κ)) (3, (lent card_file, (52, (0, tt)))) (Some (Err (refusal EditionUnknown 0 0))) (Some (Err (refusal OutputTooShort 0 0)))
+  pub with_room_retired : Tells (WithRoomSays (one κ)) (1, (lent card_file, (52, (0, tt)))) (Some (Err (refusal EditionRetired 0 0))) (Some (Err (refusal OutputTooShort 0 0)))
+  pub with_room_first : Tells (WithRoomSays (one κ)) (2, (lent [], (52, (51, tt)))) (Some (Err (refusal OutputTooShort 0 0))) (Some (Err (refusal EndsTooEarly 1 0)))
+  pub with_room_exact : Tells (WithRoomSays (one κ)) (2, (lent card_file, (52, (52, tt)))) (accepted 5 1 one_sale) (Some (Err (refusal OutputTooShort 0 0)))
   -- `Stream::open`: always edition 2; edition 1 open, so that 22 comes at the end at the earliest; a byte that has not come
   pub stream_open_lem : OneAnswer StreamOpenSays
   pub stream_open_3 : Tells (StreamOpenSays tt) (3, tt) (stream (opened (Refused (refusal EditionUnknown 0 0)) 3) []) (stream (opened Start 3) [])
@@ -197,8 +204,8 @@ pub record CardFile (κ : Lft) : Type 0 where
   pub stream_end_early : Tells (StreamEndSays tt) (stream (state InBatch 3 one_sale) [], tt) (stream (state (Refused (refusal EndsTooEarly 4 0)) 3 one_sale) []) (stream (state Closed 3 one_sale) [])
   -- `Stream::answer`: accepted before the end; accepted though a byte came behind the end
   pub stream_answer : OneAnswer StreamAnswerSays
-  pub stream_answer_early : Tells (StreamAnswerSays tt) (stream (state Ended 5 one_sale) [], tt) GoingOn (accepted 5 0 one_sale)
-  pub stream_answer_behind : Tells (StreamAnswerSays tt) (stream (state Closed 5 one_sale) (ascii "x"), tt) (refused (refusal BytesAfterTheEnd 6 0)) (accepted 5 0 one_sale)
+  pub stream_answer_early : Tells (StreamAnswerSays tt) (stream (state Ended 5 one_sale) [], tt) None (accepted 5 0 one_sale)
+  pub stream_answer_behind : Tells (StreamAnswerSays tt) (stream (state Closed 5 one_sale) (ascii "x"), tt) (Some (Err (refusal BytesAfterTheEnd 6 0))) (accepted 5 0 one_sale)
   -- `Unfinished::none`: a byte that has not come; a length of the whole buffer
   pub unfinished_none : OneAnswer UnfinishedNoneSays
   pub unfinished_none_byte : Tells (UnfinishedNoneSays tt) tt (holding []) (holding (ascii " "))

@@ -1,9 +1,7 @@
 -- What the contracts of the masked copy, the field question and a file's day sheet are held to. Behind a function's name: the wrong programs that are ruled out.
-use Rattle.std.specs.Prelude.{ℕ, List, [], ◌++◌, length, take}
+use Rattle.std.specs.Prelude.{ℕ, List, [], ◌++◌, length, take, Err, Ok, Some}
 use Rattle.text.specs.Literal.{ascii}
 use Rattle.refusal.specs.declared.Cause.TheVariants.{EditionUnknown, EditionRetired, OutputTooShort, SequenceWrong, KindUnknown, WrongWidth, FieldNotOffered}
-use Rattle.card_run.specs.declared.answer.CardAnswer.TheVariants.{Refused}
-use Rattle.sale_field.specs.declared.FieldAnswer.TheVariants.{Offered, Refused as not_offered}
 use Rattle.sheet_numbers.specs.declared.sheet.Sheet.{Sheet}
 use Rattle.sheet_numbers.specs.declared.sheet.Sheet.TheVariants.{Version2}
 use Rattle.day_sheet.specs.Sheet.{bytes_of}
@@ -103,30 +101,30 @@ pub record CardMask (κ : Lft) : Type 0 where
       (record { answer = accepted 5 1 one_sale; exit = (2, (lent card_file, (lent_mut card_file, tt))) })
   pub mask_refused :
       TellsOutcome (MaskSays (two κ)) (2, (lent (file_of (at 194 "000004" sale)), (lent_mut (room (length card_file)), tt)))
-      (record { answer = Refused (refusal SequenceWrong 3 194); exit = (2, (lent (file_of (at 194 "000004" sale)), (lent_mut (room (length card_file)), tt))) })
-      (record { answer = Refused (refusal SequenceWrong 3 194); exit = (2, (lent (file_of (at 194 "000004" sale)), (lent_mut (file_of masked_sale), tt))) })
+      (record { answer = Some (Err (refusal SequenceWrong 3 194)); exit = (2, (lent (file_of (at 194 "000004" sale)), (lent_mut (room (length card_file)), tt))) })
+      (record { answer = Some (Err (refusal SequenceWrong 3 194)); exit = (2, (lent (file_of (at 194 "000004" sale)), (lent_mut (file_of masked_sale), tt))) })
   pub mask_short :
       TellsOutcome (MaskSays (two κ)) (2, (lent card_file, (lent_mut (room 201), tt)))
-      (record { answer = Refused (refusal OutputTooShort 0 0); exit = (2, (lent card_file, (lent_mut (room 201), tt))) })
-      (record { answer = Refused (refusal OutputTooShort 0 0); exit = (2, (lent card_file, (lent_mut (take 201 card_file), tt))) })
+      (record { answer = Some (Err (refusal OutputTooShort 0 0)); exit = (2, (lent card_file, (lent_mut (room 201), tt))) })
+      (record { answer = Some (Err (refusal OutputTooShort 0 0)); exit = (2, (lent card_file, (lent_mut (take 201 card_file), tt))) })
   pub mask_order :
       TellsOutcome (MaskSays (two κ)) (3, (lent card_file, (lent_mut (room 201), tt)))
-      (record { answer = Refused (refusal EditionUnknown 0 0); exit = (3, (lent card_file, (lent_mut (room 201), tt))) })
-      (record { answer = Refused (refusal OutputTooShort 0 0); exit = (3, (lent card_file, (lent_mut (room 201), tt))) })
+      (record { answer = Some (Err (refusal EditionUnknown 0 0)); exit = (3, (lent card_file, (lent_mut (room 201), tt))) })
+      (record { answer = Some (Err (refusal OutputTooShort 0 0)); exit = (3, (lent card_file, (lent_mut (room 201), tt))) })
   pub mask_order_retired :
       TellsOutcome (MaskSays (two κ)) (1, (lent card_file, (lent_mut (room 201), tt)))
-      (record { answer = Refused (refusal EditionRetired 0 0); exit = (1, (lent card_file, (lent_mut (room 201), tt))) })
-      (record { answer = Refused (refusal OutputTooShort 0 0); exit = (1, (lent card_file, (lent_mut (room 201), tt))) })
+      (record { answer = Some (Err (refusal EditionRetired 0 0)); exit = (1, (lent card_file, (lent_mut (room 201), tt))) })
+      (record { answer = Some (Err (refusal OutputTooShort 0 0)); exit = (1, (lent card_file, (lent_mut (room 201), tt))) })
   pub mask_retired :
       TellsOutcome (MaskSays (two κ)) (1, (lent card_file, (lent_mut (room (length card_file)), tt)))
-      (record { answer = Refused (refusal EditionRetired 0 0); exit = (1, (lent card_file, (lent_mut (room (length card_file)), tt))) })
+      (record { answer = Some (Err (refusal EditionRetired 0 0)); exit = (1, (lent card_file, (lent_mut (room (length card_file)), tt))) })
       (record { answer = accepted 5 1 one_sale; exit = (1, (lent card_file, (lent_mut (file_of masked_sale), tt))) })
   -- `field_answer`: the card offered; a longer record taken; an adjustment taken; 14 before 4
   pub field_answer : OneAnswer FieldAnswerSays
-  pub field_card : Tells (FieldAnswerSays (one κ)) (lent sale, (13, tt)) (not_offered (refusal FieldNotOffered 0 0)) Offered
-  pub field_longer : Tells (FieldAnswerSays (one κ)) (lent (at 200 "0" sale), (1, tt)) (not_offered (refusal WrongWidth 1 0)) Offered
-  pub field_adjustment : Tells (FieldAnswerSays (one κ)) (lent credit, (1, tt)) (not_offered (refusal KindUnknown 1 1)) Offered
-  pub field_order : Tells (FieldAnswerSays (one κ)) (lent (ascii "L0"), (13, tt)) (not_offered (refusal KindUnknown 1 1)) (not_offered (refusal FieldNotOffered 0 0))
+  pub field_card : Tells (FieldAnswerSays (one κ)) (lent sale, (13, tt)) (Err (refusal FieldNotOffered 0 0)) (Ok tt)
+  pub field_longer : Tells (FieldAnswerSays (one κ)) (lent (at 200 "0" sale), (1, tt)) (Err (refusal WrongWidth 1 0)) (Ok tt)
+  pub field_adjustment : Tells (FieldAnswerSays (one κ)) (lent credit, (1, tt)) (Err (refusal KindUnknown 1 1)) (Ok tt)
+  pub field_order : Tells (FieldAnswerSays (one κ)) (lent (ascii "L0"), (13, tt)) (Err (refusal KindUnknown 1 1)) (Err (refusal FieldNotOffered 0 0))
   -- `field`: the card handed back; the field behind it; other bytes with the same content
   pub field : OnePart FieldSays
   pub field_is_card : Tells (FieldSays (one κ)) (lent sale, (13, tt)) (part 0 []) (part 87 (ascii "0001234567890123456"))
@@ -156,27 +154,27 @@ pub record CardMask (κ : Lft) : Type 0 where
       (record { answer = accepted 5 1 one_sale; exit = (2, (lent card_file, (lent_mut (bytes_of (day_sheet 1)), tt))) })
   pub sheet_of_retired :
       TellsOutcome (SheetOfSays (two κ)) (1, (lent card_file, (lent_mut (room 81), tt)))
-      (record { answer = Refused (refusal EditionRetired 0 0); exit = (1, (lent card_file, (lent_mut (room 81), tt))) })
+      (record { answer = Some (Err (refusal EditionRetired 0 0)); exit = (1, (lent card_file, (lent_mut (room 81), tt))) })
       (record { answer = accepted 5 1 one_sale; exit = (1, (lent card_file, (lent_mut (bytes_of (day_sheet 1)), tt))) })
   pub sheet_of_order :
       TellsOutcome (SheetOfSays (two κ)) (1, (lent card_file, (lent_mut (room 80), tt)))
-      (record { answer = Refused (refusal EditionRetired 0 0); exit = (1, (lent card_file, (lent_mut (room 80), tt))) })
-      (record { answer = Refused (refusal OutputTooShort 0 0); exit = (1, (lent card_file, (lent_mut (room 80), tt))) })
+      (record { answer = Some (Err (refusal EditionRetired 0 0)); exit = (1, (lent card_file, (lent_mut (room 80), tt))) })
+      (record { answer = Some (Err (refusal OutputTooShort 0 0)); exit = (1, (lent card_file, (lent_mut (room 80), tt))) })
   pub sheet_of_past :
       TellsOutcome (SheetOfSays (two κ)) (2, (lent card_file, (lent_mut (room 82), tt)))
       (record { answer = accepted 5 1 one_sale; exit = (2, (lent card_file, (lent_mut (bytes_of (day_sheet 2) ++ room 1), tt))) })
       (record { answer = accepted 5 1 one_sale; exit = (2, (lent card_file, (lent_mut (bytes_of (day_sheet 2) ++ ascii "\n"), tt))) })
   pub sheet_of_refused :
       TellsOutcome (SheetOfSays (two κ)) (2, (lent (file_of (at 194 "000004" sale)), (lent_mut (room 81), tt)))
-      (record { answer = Refused (refusal SequenceWrong 3 194); exit = (2, (lent (file_of (at 194 "000004" sale)), (lent_mut (room 81), tt))) })
-      (record { answer = Refused (refusal SequenceWrong 3 194); exit = (2, (lent (file_of (at 194 "000004" sale)), (lent_mut (bytes_of (day_sheet 2)), tt))) })
+      (record { answer = Some (Err (refusal SequenceWrong 3 194)); exit = (2, (lent (file_of (at 194 "000004" sale)), (lent_mut (room 81), tt))) })
+      (record { answer = Some (Err (refusal SequenceWrong 3 194)); exit = (2, (lent (file_of (at 194 "000004" sale)), (lent_mut (bytes_of (day_sheet 2)), tt))) })
   pub sheet_of_short :
       TellsOutcome (SheetOfSays (two κ)) (2, (lent card_file, (lent_mut (room 80), tt)))
-      (record { answer = Refused (refusal OutputTooShort 0 0); exit = (2, (lent card_file, (lent_mut (room 80), tt))) })
+      (record { answer = Some (Err (refusal OutputTooShort 0 0)); exit = (2, (lent card_file, (lent_mut (room 80), tt))) })
       (record { answer = accepted 5 1 one_sale; exit = (2, (lent card_file, (lent_mut (take 80 (bytes_of (day_sheet 2))), tt))) })
   pub sheet_of_short_one :
       TellsOutcome (SheetOfSays (two κ)) (2, (lent card_file, (lent_mut (room 52), tt)))
-      (record { answer = Refused (refusal OutputTooShort 0 0); exit = (2, (lent card_file, (lent_mut (room 52), tt))) })
+      (record { answer = Some (Err (refusal OutputTooShort 0 0)); exit = (2, (lent card_file, (lent_mut (room 52), tt))) })
       (record { answer = accepted 5 1 one_sale; exit = (2, (lent card_file, (lent_mut (bytes_of (converted (day_sheet 2))), tt))) })
   pub sheet_of_split :
       TellsOutcome (SheetOfSays (two κ)) (2, (lent card_file, (lent_mut (room 81), tt)))

@@ -1,5 +1,5 @@
 -- What the contracts of the running state of a card file are held to. Behind a function's name: the wrong programs that are ruled out.
-use Rattle.std.specs.Prelude.{ℕ, true, false}
+use Rattle.std.specs.Prelude.{ℕ, true, false, Err, None, Ok, Some}
 use Rattle.refusal.specs.declared.Cause.{Cause}
 use Rattle.refusal.specs.declared.Refusal.{Refusal}
 use Rattle.totals.specs.declared.two_sets.TwoSets.{TwoSets}
@@ -7,13 +7,11 @@ use Rattle.totals.specs.TwoSets.{summed}
 use Rattle.card_run.specs.declared.stage.Stage.{Stage}
 use Rattle.card_run.specs.declared.running.Running.{Running}
 use Rattle.card_run.specs.declared.answer.Accepted.{Accepted as Numbers}
-use Rattle.card_run.specs.declared.answer.CardAnswer.{CardAnswer}
 use Rattle.card_run.specs.declared.adjusted.Adjusted.{Adjusted}
 use Rattle.card_run.specs.declared.batch.OpenBatch.{OpenBatch}
 use Rattle.refusal.specs.declared.Cause.TheVariants.{EditionUnknown, EditionRetired, SequenceWrong, EndsTooEarly, BytesAfterTheEnd}
 use Rattle.card_record.specs.declared.kind.Kind.TheVariants.{A0, Cv, Aj, L9}
 use Rattle.card_run.specs.declared.stage.Stage.TheVariants.{Start, BetweenBatches, InBatch, Ended, Closed, Refused}
-use Rattle.card_run.specs.declared.answer.CardAnswer.TheVariants.{GoingOn, Accepted, Refused as refused}
 use Rattle.card_run.specs.Running.{numbers_of}
 use Rattle.answers.specs.Totals.{amounts, settled, forecast}
 use Rattle.card_run.specs.contracts.running.Running.open as Open
@@ -33,6 +31,7 @@ use Rattle.card_run.specs.contracts.stage.Stage.is_open as IsOpen
 use Rattle.card_run.specs.contracts.stage.Stage.allows as Allows
 use borrow.Fn.Read.{r_last}
 use Rattle.answers.specs.Held.{Claim, fact_of, logic, memory, run, OneAnswer, Tells}
+use Rattle.card_run.specs.Answer.{CardAnswer}
 
 -- what each contract says
 abbrev OpenSays : Claim Open.ended
@@ -124,7 +123,7 @@ one_forecast = forecast 1 (amounts 10000 250 9750)
 
 -- an accepted file of so many records and batches with these totals
 abbrev pub accepted : ℕ → ℕ → TwoSets → CardAnswer
-accepted records batches totals = Accepted (numbers records batches totals)
+accepted records batches totals = Some (Ok (numbers records batches totals))
 
 -- a file of an edition of which nothing has come
 abbrev pub opened : Stage → ℕ → Running
@@ -189,9 +188,9 @@ pub record CardRun : Type 0 where
   pub close_again : Tells (CloseSays tt) (state Closed 5 one_sale, tt) (state Closed 5 one_sale) (state (Refused (refusal EndsTooEarly 6 0)) 5 one_sale)
   -- `Running::answer`: accepted before the close; the records counted as sales; a refused file's totals told; a forecast told as settled
   pub answer : OneAnswer AnswerSays
-  pub answer_early : Tells (AnswerSays tt) (state Ended 5 one_sale, tt) GoingOn (accepted 5 0 one_sale)
+  pub answer_early : Tells (AnswerSays tt) (state Ended 5 one_sale, tt) None (accepted 5 0 one_sale)
   pub answer_sales : Tells (AnswerSays tt) (state Closed 5 one_sale, tt) (accepted 5 0 one_sale) (accepted 5 0 (settled 5 (amounts 10000 250 9750)))
-  pub answer_refused : Tells (AnswerSays tt) (state (Refused (refusal SequenceWrong 4 194)) 3 one_sale, tt) (refused (refusal SequenceWrong 4 194)) (accepted 3 0 one_sale)
+  pub answer_refused : Tells (AnswerSays tt) (state (Refused (refusal SequenceWrong 4 194)) 3 one_sale, tt) (Some (Err (refusal SequenceWrong 4 194))) (accepted 3 0 one_sale)
   pub answer_forecast : Tells (AnswerSays tt) (state Closed 5 one_forecast, tt) (accepted 5 0 one_forecast) (accepted 5 0 one_sale)
   -- `Stage::is_open`: open behind A9; shut at the start
   pub is_open : OneAnswer IsOpenSays

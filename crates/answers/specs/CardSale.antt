@@ -1,7 +1,6 @@
 -- What the contracts of a sale are held to. Behind a function's name: the wrong programs that are ruled out.
 use Rattle.std.specs.Prelude.{ℕ, true, false}
 use Rattle.refusal.specs.declared.Cause.TheVariants.{WrongWidth, ByteNotAllowed, ValueNotAllowed, AmountsDisagree}
-use Rattle.refusal.specs.declared.Fault.TheVariants.{Nothing, At}
 use Rattle.totals.specs.declared.amounts.Amounts.{Amounts}
 use Rattle.card_sale.specs.declared.cv.Cv.{Cv}
 use Rattle.answers.specs.Totals.{amounts}
@@ -15,6 +14,7 @@ use Rattle.card_sale.specs.contracts.cv.Cv.payable_amounts as Payable
 use Rattle.card_sale.specs.contracts.cv.Cv.joined_fault as JoinedFault
 use borrow.Fn.Read.{r_last}
 use Rattle.answers.specs.Held.{Claim, fact_of, logic, memory, run, OneAnswer, Tells, lent, one}
+use Rattle.refusal.specs.Fault.{at as fault_at, nothing}
 
 -- what each contract says
 abbrev FaultSays : Claim Fault.ended
@@ -61,9 +61,9 @@ cash_sale = cash_as 1
 pub record CardSale (κ : Lft) : Type 0 where
   -- `Cv::fault`: a longer record taken; the fields not in order; capture 0
   pub fault : OneAnswer FaultSays
-  pub fault_width : Tells (FaultSays (one κ)) (2, (lent (at 200 "0" sale), tt)) (At WrongWidth 0) Nothing
-  pub fault_order : Tells (FaultSays (one κ)) (2, (lent (at 88 "x" (at 3 "\n" sale)), tt)) (At ByteNotAllowed 3) (At ByteNotAllowed 88)
-  pub fault_capture : Tells (FaultSays (one κ)) (2, (lent (at 54 "0" sale), tt)) (At ValueNotAllowed 54) Nothing
+  pub fault_width : Tells (FaultSays (one κ)) (2, (lent (at 200 "0" sale), tt)) (fault_at WrongWidth 0) nothing
+  pub fault_order : Tells (FaultSays (one κ)) (2, (lent (at 88 "x" (at 3 "\n" sale)), tt)) (fault_at ByteNotAllowed 3) (fault_at ByteNotAllowed 88)
+  pub fault_capture : Tells (FaultSays (one κ)) (2, (lent (at 54 "0" sale), tt)) (fault_at ValueNotAllowed 54) nothing
   -- `Cv::read`: gross read for net; the instalment's amounts for the sale's
   pub read : OneAnswer ReadSays
   pub read_gross : Tells (ReadSays (one κ)) (lent sale, tt) cash_sale (sale_of (amounts 10000 250 10000) 0 0 (amounts 0 0 0))
@@ -85,7 +85,7 @@ pub record CardSale (κ : Lft) : Type 0 where
   pub payable_cash : Tells (PayableSays tt) (cash_sale, tt) (amounts 10000 250 9750) (amounts 0 0 0)
   -- `Cv::joined_fault`: net 9751 taken; instalment 4 of 3 taken; a discount left where there is no instalment; the instalment's amounts not compared
   pub joined_fault : OneAnswer JoinedFaultSays
-  pub joined_net : Tells (JoinedFaultSays tt) (sale_of (amounts 10000 250 9751) 0 0 (amounts 0 0 0), tt) (At AmountsDisagree 77) Nothing
-  pub joined_instalment : Tells (JoinedFaultSays tt) (sale_of (amounts 9 3 6) 4 3 (amounts 3 1 2), tt) (At ValueNotAllowed 107) Nothing
-  pub joined_discount : Tells (JoinedFaultSays tt) (sale_of (amounts 9 3 6) 0 0 (amounts 0 1 0), tt) (At ValueNotAllowed 134) Nothing
-  pub joined_paid : Tells (JoinedFaultSays tt) (sale_of (amounts 9 3 6) 2 3 (amounts 3 1 1), tt) (At AmountsDisagree 145) Nothing
+  pub joined_net : Tells (JoinedFaultSays tt) (sale_of (amounts 10000 250 9751) 0 0 (amounts 0 0 0), tt) (fault_at AmountsDisagree 77) nothing
+  pub joined_instalment : Tells (JoinedFaultSays tt) (sale_of (amounts 9 3 6) 4 3 (amounts 3 1 2), tt) (fault_at ValueNotAllowed 107) nothing
+  pub joined_discount : Tells (JoinedFaultSays tt) (sale_of (amounts 9 3 6) 0 0 (amounts 0 1 0), tt) (fault_at ValueNotAllowed 134) nothing
+  pub joined_paid : Tells (JoinedFaultSays tt) (sale_of (amounts 9 3 6) 2 3 (amounts 3 1 1), tt) (fault_at AmountsDisagree 145) nothing

@@ -1,8 +1,7 @@
 -- What the contracts of the test programs' library are held to. Behind a function's name: the wrong programs that are ruled out.
-use Rattle.std.specs.Prelude.{ℕ, true, false, [], ◌∷◌, replicate}
+use Rattle.std.specs.Prelude.{ℕ, true, false, [], ◌∷◌, replicate, Err, Ok, Some}
 use Rattle.text.specs.Literal.{ascii}
 use Rattle.refusal.specs.declared.Cause.TheVariants.{SequenceWrong}
-use Rattle.card_run.specs.declared.answer.CardAnswer.TheVariants.{Accepted, Refused}
 use Rattle.cases.specs.declared.cursor.Number.{Number}
 use Rattle.cases.specs.declared.cuts.Cuts.{Cuts}
 use Rattle.answers.specs.CardRun.{adjusted, numbers_with, refusal, no_sale, one_sale, one_forecast, accepted}
@@ -100,8 +99,8 @@ pub record Cases (κ : Lft) : Type 0 where
   pub card_row : OneAnswer CardRowSays
   pub row_net : Tells (CardRowSays tt) (accepted 5 1 one_sale, tt) (0 ∷ 0 ∷ 0 ∷ 20240229 ∷ 1 ∷ 5 ∷ 1 ∷ 0 ∷ 0 ∷ 0 ∷ 0 ∷ 1 ∷ 10000 ∷ 250 ∷ 9750 ∷ 0 ∷ 0 ∷ 0 ∷ 0 ∷ []) (0 ∷ 0 ∷ 0 ∷ 20240229 ∷ 1 ∷ 5 ∷ 1 ∷ 0 ∷ 0 ∷ 0 ∷ 0 ∷ 1 ∷ 10000 ∷ 250 ∷ 250 ∷ 0 ∷ 0 ∷ 0 ∷ 0 ∷ [])
   pub row_forecast : Tells (CardRowSays tt) (accepted 5 1 one_forecast, tt) (0 ∷ 0 ∷ 0 ∷ 20240229 ∷ 1 ∷ 5 ∷ 1 ∷ 1 ∷ 10000 ∷ 250 ∷ 9750 ∷ 0 ∷ 0 ∷ 0 ∷ 0 ∷ 0 ∷ 0 ∷ 0 ∷ 0 ∷ []) (0 ∷ 0 ∷ 0 ∷ 20240229 ∷ 1 ∷ 5 ∷ 1 ∷ 0 ∷ 0 ∷ 0 ∷ 0 ∷ 1 ∷ 10000 ∷ 250 ∷ 9750 ∷ 0 ∷ 0 ∷ 0 ∷ 0 ∷ [])
-  pub row_debits : Tells (CardRowSays tt) (Accepted (numbers_with 5 1 no_sale (adjusted 0 0) (adjusted 1 975)), tt) (0 ∷ 0 ∷ 0 ∷ 20240229 ∷ 1 ∷ 5 ∷ 1 ∷ 0 ∷ 0 ∷ 0 ∷ 0 ∷ 0 ∷ 0 ∷ 0 ∷ 0 ∷ 0 ∷ 0 ∷ 1 ∷ 975 ∷ []) (0 ∷ 0 ∷ 0 ∷ 20240229 ∷ 1 ∷ 5 ∷ 1 ∷ 0 ∷ 0 ∷ 0 ∷ 0 ∷ 0 ∷ 0 ∷ 0 ∷ 0 ∷ 1 ∷ 975 ∷ 0 ∷ 0 ∷ [])
-  pub row_column : Tells (CardRowSays tt) (Refused (refusal SequenceWrong 3 194), tt) (9 ∷ 3 ∷ 194 ∷ replicate 16 0) (9 ∷ 3 ∷ 0 ∷ replicate 16 0)
+  pub row_debits : Tells (CardRowSays tt) (Some (Ok (numbers_with 5 1 no_sale (adjusted 0 0) (adjusted 1 975))), tt) (0 ∷ 0 ∷ 0 ∷ 20240229 ∷ 1 ∷ 5 ∷ 1 ∷ 0 ∷ 0 ∷ 0 ∷ 0 ∷ 0 ∷ 0 ∷ 0 ∷ 0 ∷ 0 ∷ 0 ∷ 1 ∷ 975 ∷ []) (0 ∷ 0 ∷ 0 ∷ 20240229 ∷ 1 ∷ 5 ∷ 1 ∷ 0 ∷ 0 ∷ 0 ∷ 0 ∷ 0 ∷ 0 ∷ 0 ∷ 0 ∷ 1 ∷ 975 ∷ 0 ∷ 0 ∷ [])
+  pub row_column : Tells (CardRowSays tt) (Some (Err (refusal SequenceWrong 3 194)), tt) (9 ∷ 3 ∷ 194 ∷ replicate 16 0) (9 ∷ 3 ∷ 0 ∷ replicate 16 0)
   -- `same`: a look at the first numbers alone; a shorter row taken for the same
   pub same : OneAnswer SameSays
   pub same_first : Tells (SameSays (two κ)) (lent (1 ∷ 2 ∷ []), (lent (1 ∷ 3 ∷ []), tt)) false true

@@ -1,9 +1,8 @@
 -- What the contracts of the day sheet and of an edition are held to. Behind a function's name: the wrong programs that are ruled out.
-use Rattle.std.specs.Prelude.{ℕ, true, false, List, [], ◌∷◌, ◌++◌, take}
+use Rattle.std.specs.Prelude.{ℕ, true, false, List, [], ◌∷◌, ◌++◌, take, Err, None, Ok, Some}
 use Rattle.text.specs.Literal.{ascii}
 use Rattle.refusal.specs.declared.Cause.{Cause}
 use Rattle.refusal.specs.declared.Cause.TheVariants.{EditionUnknown, EditionRetired, OutputTooShort, NotADaySheet, SheetVersionUnknown, SheetNumbersNotAllowed}
-use Rattle.refusal.specs.declared.Fault.TheVariants.{Nothing, At}
 use Rattle.totals.specs.declared.amounts.Totals.{Totals}
 use Rattle.totals.specs.Amounts.{no_totals}
 use Rattle.totals.specs.TwoSets.{sets_of}
@@ -12,11 +11,7 @@ use Rattle.day_sheet.specs.declared.layout.Version.TheVariants.{One, Two}
 use Rattle.sheet_numbers.specs.declared.sheet.Heading.{Heading}
 use Rattle.sheet_numbers.specs.declared.sheet.Sheet.{Sheet}
 use Rattle.sheet_numbers.specs.declared.sheet.Sheet.TheVariants.{Version1, Version2}
-use Rattle.day_sheet.specs.declared.reader.SheetRead.TheVariants.{Read, Refused}
-use Rattle.day_sheet.specs.declared.writer.SheetWritten.{SheetWritten}
-use Rattle.day_sheet.specs.declared.writer.SheetWritten.TheVariants.{Written, Refused as not_written}
 use Rattle.day_sheet.specs.Sheet.{bytes_of}
-use Rattle.edition.specs.declared.Edition.TheVariants.{Of, NoNumber}
 use Rattle.answers.specs.Totals.{amounts, totals_of}
 use Rattle.answers.specs.CardRun.{refusal}
 use Rattle.answers.specs.Samples.{at, room}
@@ -28,6 +23,7 @@ use Rattle.sheet_numbers.specs.contracts.sheet.Sheet.edition as SheetEdition
 use Rattle.sheet_numbers.specs.contracts.sheet.Sheet.converted as Converted
 use Rattle.sheet_numbers.specs.contracts.sheet.Sheet.is_allowed as IsAllowed
 use Rattle.day_sheet.specs.contracts.row.row as RowOf
+use Rattle.day_sheet.specs.contracts.row.totals_from as TotalsFrom
 use Rattle.day_sheet.specs.contracts.row.sheet_of as SheetOfRow
 use Rattle.day_sheet.specs.contracts.reader.read as ReadSheet
 use Rattle.day_sheet.specs.contracts.writer.write as WriteSheet
@@ -37,6 +33,8 @@ use Rattle.edition.specs.contracts.known.fault_of as FaultOfEdition
 use Rattle.edition.specs.contracts.edition_of as EditionOf
 use borrow.Fn.Read.{r_last}
 use Rattle.answers.specs.Held.{Claim, fact_of, logic, memory, run, OneAnswer, OneOutcome, Tells, TellsOutcome, lent, lent_mut, one, two}
+use Rattle.refusal.specs.Fault.{at as fault_at, nothing}
+use Rattle.day_sheet.specs.Writing.{SheetWritten}
 
 -- what each contract says
 abbrev PutSays : Claim Put.ended
@@ -59,6 +57,9 @@ IsAllowedSays κs a r s = fact_of ((IsAllowed.clauses logic memory run κs a).en
 
 abbrev RowOfSays : Claim RowOf.ended
 RowOfSays κs a r s = fact_of ((RowOf.clauses logic memory run κs a).ensures tt r s) (r_last _)
+
+abbrev TotalsFromSays : Claim TotalsFrom.ended
+TotalsFromSays κs a r s = fact_of ((TotalsFrom.clauses logic memory run κs a).ensures tt r s) (r_last _)
 
 abbrev SheetOfRowSays : Claim SheetOfRow.ended
 SheetOfRowSays κs a r s = fact_of ((SheetOfRow.clauses logic memory run κs a).ensures tt r s) (r_last _)
@@ -128,7 +129,7 @@ least = totals_of 1 (amounts 1 0 1)
 
 -- a refusal of writing
 abbrev refused : Cause → SheetWritten
-refused cause = not_written (refusal cause 0 0)
+refused cause = Err (refusal cause 0 0)
 
 pub record DaySheet (κ : Lft) : Type 0 where
   -- `Form::put`: low byte first; blanks for zeros
@@ -177,46 +178,54 @@ pub record DaySheet (κ : Lft) : Type 0 where
   pub row : OneAnswer RowOfSays
   pub row_exchanged : Tells (RowOfSays tt) (both_sets, tt) sets_row exchanged_row
   pub row_split : Tells (RowOfSays tt) (sheet_of 2 9750, tt) (1 ∷ 2 ∷ 20240229 ∷ 1 ∷ 1 ∷ 1 ∷ 10000 ∷ 250 ∷ 9750 ∷ 0 ∷ 0 ∷ 0 ∷ 0 ∷ 0 ∷ []) (1 ∷ 2 ∷ 20240229 ∷ 1 ∷ 1 ∷ 1 ∷ 10000 ∷ 250 ∷ 9750 ∷ 1 ∷ 0 ∷ 0 ∷ 0 ∷ 0 ∷ [])
+  -- `totals_from`: read one place late; net read for gross
+  pub totals_from : OneAnswer TotalsFromSays
+  pub totals_late :
+      Tells (TotalsFromSays (one κ)) (1, (lent (6 ∷ 7 ∷ 8 ∷ 9 ∷ 10 ∷ []), tt)) (record { sales = 7; amounts = record { gross = 8; discount = 9; net = 10 } })
+      (record { sales = 8; amounts = record { gross = 9; discount = 10; net = 0 } })
+  pub totals_exchanged :
+      Tells (TotalsFromSays (one κ)) (1, (lent (6 ∷ 7 ∷ 8 ∷ 9 ∷ 10 ∷ []), tt)) (record { sales = 7; amounts = record { gross = 8; discount = 9; net = 10 } })
+      (record { sales = 7; amounts = record { gross = 10; discount = 9; net = 8 } })
   -- `sheet_of`: the version that the first number tells; the sets exchanged
   pub sheet_of_lem : OneAnswer SheetOfRowSays
   pub sheet_of_version : Tells (SheetOfRowSays tt) (One, (sets_row, tt)) (sheet_of 2 9750) both_sets
   pub sheet_of_exchanged : Tells (SheetOfRowSays tt) (Two, (sets_row, tt)) both_sets (split_sheet 1 settled forecasts)
   -- `read`: every sheet refused; one sheet for all bytes; another version read; the mark not looked at; amounts that disagree read
   pub read : OneAnswer ReadSheetSays
-  pub read_refused : Tells (ReadSheetSays (one κ)) (lent (bytes_of (sheet_of 2 9750)), tt) (Read (sheet_of 2 9750)) (Refused (refusal SheetNumbersNotAllowed 0 0))
-  pub read_one_sheet : Tells (ReadSheetSays (one κ)) (lent [], tt) (Refused (refusal NotADaySheet 0 0)) (Read (sheet_of 2 9750))
-  pub read_mark : Tells (ReadSheetSays (one κ)) (lent (at 1 "d" (bytes_of (sheet_of 2 9750))), tt) (Refused (refusal NotADaySheet 0 0)) (Read (sheet_of 2 9750))
-  pub read_disagreeing : Tells (ReadSheetSays (one κ)) (lent (bytes_of (sheet_of 2 9751)), tt) (Refused (refusal SheetNumbersNotAllowed 0 0)) (Read (sheet_of 2 9751))
+  pub read_refused : Tells (ReadSheetSays (one κ)) (lent (bytes_of (sheet_of 2 9750)), tt) (Ok (sheet_of 2 9750)) (Err (refusal SheetNumbersNotAllowed 0 0))
+  pub read_one_sheet : Tells (ReadSheetSays (one κ)) (lent [], tt) (Err (refusal NotADaySheet 0 0)) (Ok (sheet_of 2 9750))
+  pub read_mark : Tells (ReadSheetSays (one κ)) (lent (at 1 "d" (bytes_of (sheet_of 2 9750))), tt) (Err (refusal NotADaySheet 0 0)) (Ok (sheet_of 2 9750))
+  pub read_disagreeing : Tells (ReadSheetSays (one κ)) (lent (bytes_of (sheet_of 2 9751)), tt) (Err (refusal SheetNumbersNotAllowed 0 0)) (Ok (sheet_of 2 9751))
   -- a sheet of edition 1 refused, in version 1 and in version 2, or read as one of edition 2
-  pub read_old : Tells (ReadSheetSays (one κ)) (lent (bytes_of (sheet_of 1 9750)), tt) (Read (sheet_of 1 9750)) (Refused (refusal EditionRetired 0 0))
-  pub read_old_two : Tells (ReadSheetSays (one κ)) (lent (bytes_of old_sets), tt) (Read old_sets) (Refused (refusal EditionRetired 0 0))
-  pub read_old_edition : Tells (ReadSheetSays (one κ)) (lent (bytes_of (sheet_of 1 9750)), tt) (Read (sheet_of 1 9750)) (Read (sheet_of 2 9750))
+  pub read_old : Tells (ReadSheetSays (one κ)) (lent (bytes_of (sheet_of 1 9750)), tt) (Ok (sheet_of 1 9750)) (Err (refusal EditionRetired 0 0))
+  pub read_old_two : Tells (ReadSheetSays (one κ)) (lent (bytes_of old_sets), tt) (Ok old_sets) (Err (refusal EditionRetired 0 0))
+  pub read_old_edition : Tells (ReadSheetSays (one κ)) (lent (bytes_of (sheet_of 1 9750)), tt) (Ok (sheet_of 1 9750)) (Ok (sheet_of 2 9750))
   -- 52 bytes with version 2 taken, and 81 with version 1; a sheet of version 2 refused, its sets exchanged, both of them added; 80 bytes of it taken; a split of 2 taken, and
   -- limits not tested for both
-  pub read_version : Tells (ReadSheetSays (one κ)) (lent (at 5 "\u{2}" (bytes_of (sheet_of 2 9750))), tt) (Refused (refusal SheetVersionUnknown 0 0)) (Read (sheet_of 2 9750))
-  pub read_version_one : Tells (ReadSheetSays (one κ)) (lent (at 5 "\u{1}" (bytes_of both_sets)), tt) (Refused (refusal SheetVersionUnknown 0 0)) (Read both_sets)
-  pub read_two : Tells (ReadSheetSays (one κ)) (lent (bytes_of both_sets), tt) (Read both_sets) (Refused (refusal SheetVersionUnknown 0 0))
-  pub read_exchanged : Tells (ReadSheetSays (one κ)) (lent (bytes_of both_sets), tt) (Read both_sets) (Read (split_sheet 1 settled forecasts))
-  pub read_added : Tells (ReadSheetSays (one κ)) (lent (bytes_of both_sets), tt) (Read both_sets) (Read added)
-  pub read_short : Tells (ReadSheetSays (one κ)) (lent (take 80 (bytes_of both_sets)), tt) (Refused (refusal NotADaySheet 0 0)) (Read both_sets)
-  pub read_split : Tells (ReadSheetSays (one κ)) (lent (at 53 "\u{2}" (bytes_of both_sets)), tt) (Refused (refusal SheetNumbersNotAllowed 0 0)) (Read both_sets)
+  pub read_version : Tells (ReadSheetSays (one κ)) (lent (at 5 "\u{2}" (bytes_of (sheet_of 2 9750))), tt) (Err (refusal SheetVersionUnknown 0 0)) (Ok (sheet_of 2 9750))
+  pub read_version_one : Tells (ReadSheetSays (one κ)) (lent (at 5 "\u{1}" (bytes_of both_sets)), tt) (Err (refusal SheetVersionUnknown 0 0)) (Ok both_sets)
+  pub read_two : Tells (ReadSheetSays (one κ)) (lent (bytes_of both_sets), tt) (Ok both_sets) (Err (refusal SheetVersionUnknown 0 0))
+  pub read_exchanged : Tells (ReadSheetSays (one κ)) (lent (bytes_of both_sets), tt) (Ok both_sets) (Ok (split_sheet 1 settled forecasts))
+  pub read_added : Tells (ReadSheetSays (one κ)) (lent (bytes_of both_sets), tt) (Ok both_sets) (Ok added)
+  pub read_short : Tells (ReadSheetSays (one κ)) (lent (take 80 (bytes_of both_sets)), tt) (Err (refusal NotADaySheet 0 0)) (Ok both_sets)
+  pub read_split : Tells (ReadSheetSays (one κ)) (lent (at 53 "\u{2}" (bytes_of both_sets)), tt) (Err (refusal SheetNumbersNotAllowed 0 0)) (Ok both_sets)
   pub read_both :
-      Tells (ReadSheetSays (one κ)) (lent (bytes_of (split_sheet 1 least largest)), tt) (Refused (refusal SheetNumbersNotAllowed 0 0)) (Read (split_sheet 1 least largest))
+      Tells (ReadSheetSays (one κ)) (lent (bytes_of (split_sheet 1 least largest)), tt) (Err (refusal SheetNumbersNotAllowed 0 0)) (Ok (split_sheet 1 least largest))
   -- `write`: every sheet refused; a byte past 52 changed, and past 81; 2 before 17, in both versions; a shorter output filled as far as it goes; 80 bytes enough for version
   -- 2; the split as 0; the sets exchanged; the forecast's count low byte first
   pub write : OneOutcome (λ κs s. s.1.0.now) WriteSheetSays
   pub write_refused :
       TellsOutcome (WriteSheetSays (one κ)) (sheet_of 2 9750, (lent_mut (room 52), tt))
-      (record { answer = Written; exit = (sheet_of 2 9750, (lent_mut (bytes_of (sheet_of 2 9750)), tt)) })
+      (record { answer = (Ok tt); exit = (sheet_of 2 9750, (lent_mut (bytes_of (sheet_of 2 9750)), tt)) })
       (record { answer = refused SheetNumbersNotAllowed; exit = (sheet_of 2 9750, (lent_mut (room 52), tt)) })
   pub write_past :
       TellsOutcome (WriteSheetSays (one κ)) (sheet_of 2 9750, (lent_mut (room 53), tt))
-      (record { answer = Written; exit = (sheet_of 2 9750, (lent_mut (bytes_of (sheet_of 2 9750) ++ room 1), tt)) })
-      (record { answer = Written; exit = (sheet_of 2 9750, (lent_mut (bytes_of (sheet_of 2 9750) ++ ascii "\n"), tt)) })
+      (record { answer = (Ok tt); exit = (sheet_of 2 9750, (lent_mut (bytes_of (sheet_of 2 9750) ++ room 1), tt)) })
+      (record { answer = (Ok tt); exit = (sheet_of 2 9750, (lent_mut (bytes_of (sheet_of 2 9750) ++ ascii "\n"), tt)) })
   pub write_past_two :
       TellsOutcome (WriteSheetSays (one κ)) (both_sets, (lent_mut (room 82), tt))
-      (record { answer = Written; exit = (both_sets, (lent_mut (bytes_of both_sets ++ room 1), tt)) })
-      (record { answer = Written; exit = (both_sets, (lent_mut (bytes_of both_sets ++ ascii "\n"), tt)) })
+      (record { answer = (Ok tt); exit = (both_sets, (lent_mut (bytes_of both_sets ++ room 1), tt)) })
+      (record { answer = (Ok tt); exit = (both_sets, (lent_mut (bytes_of both_sets ++ ascii "\n"), tt)) })
   pub write_order :
       TellsOutcome (WriteSheetSays (one κ)) (sheet_of 3 9750, (lent_mut (room 51), tt))
       (record { answer = refused SheetNumbersNotAllowed; exit = (sheet_of 3 9750, (lent_mut (room 51), tt)) })
@@ -232,28 +241,28 @@ pub record DaySheet (κ : Lft) : Type 0 where
   pub write_short_two :
       TellsOutcome (WriteSheetSays (one κ)) (both_sets, (lent_mut (room 80), tt))
       (record { answer = refused OutputTooShort; exit = (both_sets, (lent_mut (room 80), tt)) })
-      (record { answer = Written; exit = (both_sets, (lent_mut (take 80 (bytes_of both_sets)), tt)) })
+      (record { answer = (Ok tt); exit = (both_sets, (lent_mut (take 80 (bytes_of both_sets)), tt)) })
   pub write_split :
       TellsOutcome (WriteSheetSays (one κ)) (both_sets, (lent_mut (room 81), tt))
-      (record { answer = Written; exit = (both_sets, (lent_mut (bytes_of both_sets), tt)) })
-      (record { answer = Written; exit = (both_sets, (lent_mut (bytes_of (split_sheet 0 forecasts settled)), tt)) })
+      (record { answer = (Ok tt); exit = (both_sets, (lent_mut (bytes_of both_sets), tt)) })
+      (record { answer = (Ok tt); exit = (both_sets, (lent_mut (bytes_of (split_sheet 0 forecasts settled)), tt)) })
   pub write_exchanged :
       TellsOutcome (WriteSheetSays (one κ)) (both_sets, (lent_mut (room 81), tt))
-      (record { answer = Written; exit = (both_sets, (lent_mut (bytes_of both_sets), tt)) })
-      (record { answer = Written; exit = (both_sets, (lent_mut (bytes_of (split_sheet 1 settled forecasts)), tt)) })
+      (record { answer = (Ok tt); exit = (both_sets, (lent_mut (bytes_of both_sets), tt)) })
+      (record { answer = (Ok tt); exit = (both_sets, (lent_mut (bytes_of (split_sheet 1 settled forecasts)), tt)) })
   pub write_low_first :
       TellsOutcome (WriteSheetSays (one κ)) (both_sets, (lent_mut (room 81), tt))
-      (record { answer = Written; exit = (both_sets, (lent_mut (bytes_of both_sets), tt)) })
-      (record { answer = Written; exit = (both_sets, (lent_mut (at 54 "\u{2}\0\0\0" (bytes_of both_sets)), tt)) })
+      (record { answer = (Ok tt); exit = (both_sets, (lent_mut (bytes_of both_sets), tt)) })
+      (record { answer = (Ok tt); exit = (both_sets, (lent_mut (at 54 "\u{2}\0\0\0" (bytes_of both_sets)), tt)) })
   -- a new sheet of edition 1 written, in version 1 and in version 2; 17 before 22, and 2; 22 for edition 3
   pub write_old :
       TellsOutcome (WriteSheetSays (one κ)) (sheet_of 1 9750, (lent_mut (room 52), tt))
       (record { answer = refused EditionRetired; exit = (sheet_of 1 9750, (lent_mut (room 52), tt)) })
-      (record { answer = Written; exit = (sheet_of 1 9750, (lent_mut (bytes_of (sheet_of 1 9750)), tt)) })
+      (record { answer = (Ok tt); exit = (sheet_of 1 9750, (lent_mut (bytes_of (sheet_of 1 9750)), tt)) })
   pub write_old_two :
       TellsOutcome (WriteSheetSays (one κ)) (old_sets, (lent_mut (room 81), tt))
       (record { answer = refused EditionRetired; exit = (old_sets, (lent_mut (room 81), tt)) })
-      (record { answer = Written; exit = (old_sets, (lent_mut (bytes_of old_sets), tt)) })
+      (record { answer = (Ok tt); exit = (old_sets, (lent_mut (bytes_of old_sets), tt)) })
   pub write_old_numbers :
       TellsOutcome (WriteSheetSays (one κ)) (sheet_of 1 9751, (lent_mut (room 52), tt))
       (record { answer = refused EditionRetired; exit = (sheet_of 1 9751, (lent_mut (room 52), tt)) })
@@ -271,8 +280,8 @@ pub record DaySheet (κ : Lft) : Type 0 where
   pub convert : OneOutcome (λ κs s. s.1.0.now) ConvertSheetSays
   pub convert_split :
       TellsOutcome (ConvertSheetSays (two κ)) (lent (bytes_of (sheet_of 2 9750)), (lent_mut (room 81), tt))
-      (record { answer = Written; exit = (lent (bytes_of (sheet_of 2 9750)), (lent_mut (bytes_of (split_sheet 0 no_totals settled)), tt)) })
-      (record { answer = Written; exit = (lent (bytes_of (sheet_of 2 9750)), (lent_mut (bytes_of (split_sheet 1 no_totals settled)), tt)) })
+      (record { answer = (Ok tt); exit = (lent (bytes_of (sheet_of 2 9750)), (lent_mut (bytes_of (split_sheet 0 no_totals settled)), tt)) })
+      (record { answer = (Ok tt); exit = (lent (bytes_of (sheet_of 2 9750)), (lent_mut (bytes_of (split_sheet 1 no_totals settled)), tt)) })
   pub convert_unreadable :
       TellsOutcome (ConvertSheetSays (two κ)) (lent (bytes_of (sheet_of 2 9751)), (lent_mut (room 81), tt))
       (record { answer = refused SheetNumbersNotAllowed; exit = (lent (bytes_of (sheet_of 2 9751)), (lent_mut (room 81), tt)) })
@@ -288,31 +297,31 @@ pub record DaySheet (κ : Lft) : Type 0 where
   pub convert_short :
       TellsOutcome (ConvertSheetSays (two κ)) (lent (bytes_of (sheet_of 2 9750)), (lent_mut (room 80), tt))
       (record { answer = refused OutputTooShort; exit = (lent (bytes_of (sheet_of 2 9750)), (lent_mut (room 80), tt)) })
-      (record { answer = Written; exit = (lent (bytes_of (sheet_of 2 9750)), (lent_mut (take 80 (bytes_of (split_sheet 0 no_totals settled))), tt)) })
+      (record { answer = (Ok tt); exit = (lent (bytes_of (sheet_of 2 9750)), (lent_mut (take 80 (bytes_of (split_sheet 0 no_totals settled))), tt)) })
   pub convert_room :
       TellsOutcome (ConvertSheetSays (two κ)) (lent (bytes_of both_sets), (lent_mut (room 52), tt))
-      (record { answer = Written; exit = (lent (bytes_of both_sets), (lent_mut (bytes_of added), tt)) })
+      (record { answer = (Ok tt); exit = (lent (bytes_of both_sets), (lent_mut (bytes_of added), tt)) })
       (record { answer = refused OutputTooShort; exit = (lent (bytes_of both_sets), (lent_mut (room 52), tt)) })
   pub convert_past :
       TellsOutcome (ConvertSheetSays (two κ)) (lent (bytes_of both_sets), (lent_mut (room 53), tt))
-      (record { answer = Written; exit = (lent (bytes_of both_sets), (lent_mut (bytes_of added ++ room 1), tt)) })
-      (record { answer = Written; exit = (lent (bytes_of both_sets), (lent_mut (bytes_of added ++ ascii "\n"), tt)) })
+      (record { answer = (Ok tt); exit = (lent (bytes_of both_sets), (lent_mut (bytes_of added ++ room 1), tt)) })
+      (record { answer = (Ok tt); exit = (lent (bytes_of both_sets), (lent_mut (bytes_of added ++ ascii "\n"), tt)) })
   pub convert_settled :
       TellsOutcome (ConvertSheetSays (two κ)) (lent (bytes_of both_sets), (lent_mut (room 52), tt))
-      (record { answer = Written; exit = (lent (bytes_of both_sets), (lent_mut (bytes_of added), tt)) })
-      (record { answer = Written; exit = (lent (bytes_of both_sets), (lent_mut (bytes_of (sheet_of 2 9750)), tt)) })
+      (record { answer = (Ok tt); exit = (lent (bytes_of both_sets), (lent_mut (bytes_of added), tt)) })
+      (record { answer = (Ok tt); exit = (lent (bytes_of both_sets), (lent_mut (bytes_of (sheet_of 2 9750)), tt)) })
   pub convert_same :
       TellsOutcome (ConvertSheetSays (two κ)) (lent (bytes_of (sheet_of 2 9750)), (lent_mut (room 81), tt))
-      (record { answer = Written; exit = (lent (bytes_of (sheet_of 2 9750)), (lent_mut (bytes_of (split_sheet 0 no_totals settled)), tt)) })
-      (record { answer = Written; exit = (lent (bytes_of (sheet_of 2 9750)), (lent_mut (bytes_of (sheet_of 2 9750) ++ room 29), tt)) })
+      (record { answer = (Ok tt); exit = (lent (bytes_of (sheet_of 2 9750)), (lent_mut (bytes_of (split_sheet 0 no_totals settled)), tt)) })
+      (record { answer = (Ok tt); exit = (lent (bytes_of (sheet_of 2 9750)), (lent_mut (bytes_of (sheet_of 2 9750) ++ room 29), tt)) })
   pub convert_old :
       TellsOutcome (ConvertSheetSays (two κ)) (lent (bytes_of old_sets), (lent_mut (room 52), tt))
-      (record { answer = Written; exit = (lent (bytes_of old_sets), (lent_mut (bytes_of old_added), tt)) })
+      (record { answer = (Ok tt); exit = (lent (bytes_of old_sets), (lent_mut (bytes_of old_added), tt)) })
       (record { answer = refused EditionRetired; exit = (lent (bytes_of old_sets), (lent_mut (room 52), tt)) })
   pub convert_old_edition :
       TellsOutcome (ConvertSheetSays (two κ)) (lent (bytes_of old_sets), (lent_mut (room 52), tt))
-      (record { answer = Written; exit = (lent (bytes_of old_sets), (lent_mut (bytes_of old_added), tt)) })
-      (record { answer = Written; exit = (lent (bytes_of old_sets), (lent_mut (bytes_of added), tt)) })
+      (record { answer = (Ok tt); exit = (lent (bytes_of old_sets), (lent_mut (bytes_of old_added), tt)) })
+      (record { answer = (Ok tt); exit = (lent (bytes_of old_sets), (lent_mut (bytes_of added), tt)) })
   -- `is_retired`: an edition cut down to a byte, 257 to 1; edition 2 retired; edition 1 not
   pub is_retired : OneAnswer IsRetiredSays
   pub is_retired_257 : Tells (IsRetiredSays tt) (257, tt) false true
@@ -320,13 +329,13 @@ pub record DaySheet (κ : Lft) : Type 0 where
   pub is_retired_1 : Tells (IsRetiredSays tt) (1, tt) true false
   -- `fault_of`: 258 cut down to 2; 22 for edition 3; 1 for edition 1, and none; edition 2 retired
   pub edition_fault_lem : OneAnswer FaultOfEditionSays
-  pub edition_fault_258 : Tells (FaultOfEditionSays tt) (258, tt) (At EditionUnknown 0) Nothing
-  pub edition_fault_3 : Tells (FaultOfEditionSays tt) (3, tt) (At EditionUnknown 0) (At EditionRetired 0)
-  pub edition_fault_1 : Tells (FaultOfEditionSays tt) (1, tt) (At EditionRetired 0) (At EditionUnknown 0)
-  pub edition_fault_none : Tells (FaultOfEditionSays tt) (1, tt) (At EditionRetired 0) Nothing
-  pub edition_fault_2 : Tells (FaultOfEditionSays tt) (2, tt) Nothing (At EditionRetired 0)
+  pub edition_fault_258 : Tells (FaultOfEditionSays tt) (258, tt) (fault_at EditionUnknown 0) nothing
+  pub edition_fault_3 : Tells (FaultOfEditionSays tt) (3, tt) (fault_at EditionUnknown 0) (fault_at EditionRetired 0)
+  pub edition_fault_1 : Tells (FaultOfEditionSays tt) (1, tt) (fault_at EditionRetired 0) (fault_at EditionUnknown 0)
+  pub edition_fault_none : Tells (FaultOfEditionSays tt) (1, tt) (fault_at EditionRetired 0) nothing
+  pub edition_fault_2 : Tells (FaultOfEditionSays tt) (2, tt) nothing (fault_at EditionRetired 0)
   -- `edition_of`: a value that wraps, 2^64 + 2; no digit at all taken for 0; a sign passed over
   pub edition_of_lem : OneAnswer EditionOfSays
-  pub edition_wraps : Tells (EditionOfSays (one κ)) (lent (ascii "18446744073709551618"), tt) (Of 18446744073709551615) (Of 2)
-  pub edition_nothing : Tells (EditionOfSays (one κ)) (lent [], tt) NoNumber (Of 0)
-  pub edition_sign : Tells (EditionOfSays (one κ)) (lent (ascii "+2"), tt) NoNumber (Of 2)
+  pub edition_wraps : Tells (EditionOfSays (one κ)) (lent (ascii "18446744073709551618"), tt) (Some 18446744073709551615) (Some 2)
+  pub edition_nothing : Tells (EditionOfSays (one κ)) (lent [], tt) None (Some 0)
+  pub edition_sign : Tells (EditionOfSays (one κ)) (lent (ascii "+2"), tt) None (Some 2)

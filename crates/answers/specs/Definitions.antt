@@ -2,7 +2,6 @@
 use Rattle.std.specs.Prelude.{◌≡◌, true, false, [], ◌∷◌}
 use Rattle.refusal.specs.Rules.{first_broken}
 use Rattle.refusal.specs.declared.Cause.TheVariants.{KindNotAllowedHere, SequenceWrong}
-use Rattle.refusal.specs.declared.Fault.TheVariants.{At as fault_at}
 use Rattle.lines.specs.Lines.{joined}
 use Rattle.card_run.specs.Running.{no_numbers}
 use Rattle.card_run.specs.Answer.{going_on_row, refused_row, card_file_row}
@@ -16,6 +15,7 @@ use Rattle.demands.specs.HiddenDigits.{hidden_in, TwinFiles}
 use Rattle.demands.specs.LentBuffers.{LeftAlone}
 use Rattle.demands.specs.MaskTwice.{RecordAndMasked, SameHiddenIn}
 use Rattle.answers.specs.CardRun.{state, refusal, no_sale, one_sale, accepted}
+use Rattle.refusal.specs.Fault.{at as fault_at}
 use Rattle.answers.specs.Samples.{
   at,
   sale,

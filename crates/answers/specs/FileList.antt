@@ -1,12 +1,11 @@
 -- What the contracts of many files in one call are held to. Behind a function's name: the wrong programs that are ruled out.
-use Rattle.std.specs.Prelude.{ℕ}
+use Rattle.std.specs.Prelude.{ℕ, Err, Ok}
 use base.Fml.{Lft}
 use Rattle.text.specs.Literal.{ascii}
 use Rattle.program.specs.declared.mistake.Mistake.TheVariants.{EditionNoNumber, System}
 use Rattle.program.specs.declared.mistake.Failed.TheVariants.{Open, Read}
 use Rattle.file_list.specs.declared.tally.Said.TheVariants.{Accepted, Unreadable}
 use Rattle.file_list.specs.declared.tally.Tally.{Tally}
-use Rattle.file_list.specs.declared.listed.Listed.TheVariants.{Files, Mistake}
 use Rattle.wording.specs.contracts.put.shown as PutShown
 use Rattle.wording.specs.contracts.line.word as PutWord
 use Rattle.file_list.specs.contracts.line.put_line as PutLine
@@ -117,12 +116,12 @@ pub record FileList (κ : Lft) (rt : Runtime) : Type 0 where
       (record { answer = 42; exit = (tally 4 1 2 1, (lent_mut (shown 44 "FILES 4 ACCEPTED 1 REFUSED 2 UNREADABLE 1\n"), (0, tt))) })
       (record { answer = 34; exit = (tally 4 1 2 1, (lent_mut (shown 44 "ACCEPTED 1 REFUSED 2 UNREADABLE 1\n"), (0, tt))) })
   -- `card_program::list_under`, of one name: a file passed over; the list ended by one that cannot be opened; one accepted under edition 3; a word taken for an edition; a number told as none
-  pub list_passed_over : Tells (ListCardsSays (two κ)) (rt, (lent (ascii "2"), (3, tt))) (Files (tally 1 0 0 1)) (Files (tally 0 0 0 0))
-  pub list_ended : Tells (ListCardsSays (two κ)) (rt, (lent (ascii "2"), (3, tt))) (Files (tally 1 0 0 1)) (Mistake (System Open 2))
-  pub list_edition : Tells (ListCardsSays (two κ)) (rt, (lent (ascii "3"), (3, tt))) (Files (tally 1 0 0 1)) (Files (tally 1 1 0 0))
-  pub list_word : Tells (ListCardsSays (two κ)) (rt, (lent (ascii "two"), (3, tt))) (Mistake EditionNoNumber) (Files (tally 1 0 0 1))
-  pub list_number : Tells (ListCardsSays (two κ)) (rt, (lent (ascii "2"), (3, tt))) (Files (tally 1 0 0 1)) (Mistake EditionNoNumber)
+  pub list_passed_over : Tells (ListCardsSays (two κ)) (rt, (lent (ascii "2"), (3, tt))) (Ok (tally 1 0 0 1)) (Ok (tally 0 0 0 0))
+  pub list_ended : Tells (ListCardsSays (two κ)) (rt, (lent (ascii "2"), (3, tt))) (Ok (tally 1 0 0 1)) (Err (System Open 2))
+  pub list_edition : Tells (ListCardsSays (two κ)) (rt, (lent (ascii "3"), (3, tt))) (Ok (tally 1 0 0 1)) (Ok (tally 1 1 0 0))
+  pub list_word : Tells (ListCardsSays (two κ)) (rt, (lent (ascii "two"), (3, tt))) (Err EditionNoNumber) (Ok (tally 1 0 0 1))
+  pub list_number : Tells (ListCardsSays (two κ)) (rt, (lent (ascii "2"), (3, tt))) (Ok (tally 1 0 0 1)) (Err EditionNoNumber)
   -- `payroll_program::list`, of one name: a file passed over; two counted; the list ended by one that cannot be read
-  pub list_payroll_over : Tells (ListPayrollsSays (one κ)) (rt, (2, tt)) (Files (tally 1 0 0 1)) (Files (tally 0 0 0 0))
-  pub list_payroll_two : Tells (ListPayrollsSays (one κ)) (rt, (2, tt)) (Files (tally 1 0 0 1)) (Files (tally 2 0 0 2))
-  pub list_payroll_ended : Tells (ListPayrollsSays (one κ)) (rt, (2, tt)) (Files (tally 1 0 0 1)) (Mistake (System Read 21))
+  pub list_payroll_over : Tells (ListPayrollsSays (one κ)) (rt, (2, tt)) (Ok (tally 1 0 0 1)) (Ok (tally 0 0 0 0))
+  pub list_payroll_two : Tells (ListPayrollsSays (one κ)) (rt, (2, tt)) (Ok (tally 1 0 0 1)) (Ok (tally 2 0 0 2))
+  pub list_payroll_ended : Tells (ListPayrollsSays (one κ)) (rt, (2, tt)) (Ok (tally 1 0 0 1)) (Err (System Read 21))

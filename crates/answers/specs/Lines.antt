@@ -1,7 +1,6 @@
 -- What the contracts of `lines` are held to. Behind a function's name: the wrong programs that are ruled out.
-use Rattle.std.specs.Prelude.{true, false}
+use Rattle.std.specs.Prelude.{true, false, Some}
 use Rattle.text.specs.Literal.{ascii}
-use Rattle.lines.specs.declared.Found.TheVariants.{At}
 use base.Fml.{Lft}
 use Rattle.lines.specs.contracts.next_lf as NextLf
 use Rattle.lines.specs.contracts.ends_in_cr as EndsInCr
@@ -22,9 +21,9 @@ WithoutLastSays κs a r s = fact_of ((WithoutLast.clauses logic memory run κs a
 pub record Lines (κ : Lft) : Type 0 where
   -- `next_lf`: a search from the start; a place counted from there; a CR taken for it
   pub next_lf_lem : OneAnswer NextLfSays
-  pub next_lf_start : Tells (NextLfSays (one κ)) (lent (ascii "a\nbc\n"), (2, tt)) (At 4) (At 1)
-  pub next_lf_counted : Tells (NextLfSays (one κ)) (lent (ascii "a\nbc\n"), (2, tt)) (At 4) (At 2)
-  pub next_lf_cr : Tells (NextLfSays (one κ)) (lent (ascii "a\rb\n"), (0, tt)) (At 3) (At 1)
+  pub next_lf_start : Tells (NextLfSays (one κ)) (lent (ascii "a\nbc\n"), (2, tt)) (Some 4) (Some 1)
+  pub next_lf_counted : Tells (NextLfSays (one κ)) (lent (ascii "a\nbc\n"), (2, tt)) (Some 4) (Some 2)
+  pub next_lf_cr : Tells (NextLfSays (one κ)) (lent (ascii "a\rb\n"), (0, tt)) (Some 3) (Some 1)
   -- `ends_in_cr`: a CR anywhere; no byte at all
   pub ends_in_cr_lem : OneAnswer EndsInCrSays
   pub ends_in_cr_anywhere : Tells (EndsInCrSays (one κ)) (lent (ascii "a\rb"), tt) false true

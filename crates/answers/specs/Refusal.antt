@@ -1,14 +1,14 @@
 -- What the contracts of `refusal` are held to. Behind a function's name: the wrong programs that are ruled out.
 use Rattle.std.specs.Prelude.{true, false}
 use Rattle.refusal.specs.declared.Cause.TheVariants.{EditionUnknown, EditionRetired, OutputTooShort, ByteNotAllowed, ValueNotAllowed, KindUnknown}
-use Rattle.refusal.specs.declared.Fault.TheVariants.{Nothing, At}
 use Rattle.refusal.specs.contracts.Cause.number as Number
 use Rattle.refusal.specs.contracts.Cause.numbered as Numbered
 use Rattle.refusal.specs.contracts.Refusal.nowhere as NowhereOf
 use Rattle.refusal.specs.contracts.rule as Rule
-use Rattle.refusal.specs.contracts.Fault.earlier as Earlier
+use Rattle.refusal.specs.contracts.earlier as Earlier
 use borrow.Fn.Read.{r_last}
 use Rattle.answers.specs.Held.{Claim, fact_of, logic, memory, run, OneAnswer, Tells}
+use Rattle.refusal.specs.Fault.{at, nothing}
 
 -- what each contract says
 abbrev NumberSays : Claim Number.ended
@@ -43,9 +43,9 @@ pub record Refusal : Type 0 where
   pub nowhere_cause : Tells (NowhereOfSays tt) (OutputTooShort, tt) (record { cause = OutputTooShort; «record» = 0; column = 0 }) (record { cause = EditionUnknown; «record» = 0; column = 0 })
   -- `rule`: a fault where the rule holds; none where it does not
   pub rule : OneAnswer RuleSays
-  pub rule_held : Tells (RuleSays tt) (KindUnknown, (1, (true, tt))) Nothing (At KindUnknown 1)
-  pub rule_broken : Tells (RuleSays tt) (KindUnknown, (1, (false, tt))) (At KindUnknown 1) Nothing
-  -- `Fault::earlier`: the second of two faults; none, though there is a second
+  pub rule_held : Tells (RuleSays tt) (KindUnknown, (1, (true, tt))) nothing (at KindUnknown 1)
+  pub rule_broken : Tells (RuleSays tt) (KindUnknown, (1, (false, tt))) (at KindUnknown 1) nothing
+  -- `earlier`: the second of two faults; none, though there is a second
   pub earlier : OneAnswer EarlierSays
-  pub earlier_first : Tells (EarlierSays tt) (At KindUnknown 1, (At ByteNotAllowed 3, tt)) (At KindUnknown 1) (At ByteNotAllowed 3)
-  pub earlier_second : Tells (EarlierSays tt) (Nothing, (At ByteNotAllowed 3, tt)) (At ByteNotAllowed 3) Nothing
+  pub earlier_first : Tells (EarlierSays tt) (at KindUnknown 1, (at ByteNotAllowed 3, tt)) (at KindUnknown 1) (at ByteNotAllowed 3)
+  pub earlier_second : Tells (EarlierSays tt) (nothing, (at ByteNotAllowed 3, tt)) (at ByteNotAllowed 3) nothing

@@ -1,6 +1,6 @@
 -- What the machine that saves a file, its driver and the reading of a descriptor are held to: the theorems over every list of answers, and, behind a
 -- function's name, the wrong programs that are ruled out. What asks the system has no one answer: its contract says what every answer is.
-use Rattle.std.specs.Prelude.{ℕ, ◌≡◌, List, true, false, pos, negsuc, None, Ok, Err}
+use Rattle.std.specs.Prelude.{ℕ, ◌≡◌, List, true, false, pos, negsuc, None, Ok, Err, Some}
 use Rattle.std.specs.Borrow.{Bor}
 use Rattle.std.specs.contracts.fs.File.{the_row}
 use Rattle.std.specs.contracts.fs.FileRead.TheImpl as FileRead
@@ -8,14 +8,11 @@ use base.Fml.{Lft}
 use Rattle.text.specs.Literal.{ascii}
 use Rattle.program.specs.declared.mistake.Mistake.TheVariants.{System}
 use Rattle.program.specs.declared.mistake.Failed.TheVariants.{Sync, Write as Writing}
-use Rattle.files.specs.declared.reading.Got.TheVariants.{Bytes, End, Failed}
-use Rattle.files.specs.declared.reading.Loaded.TheVariants.{Bytes as loaded}
 use Rattle.files.specs.Reading.{Read, stands_after, Ended}
 use Rattle.out_file.specs.declared.step.Step.{Step}
 use Rattle.out_file.specs.declared.step.Step.TheVariants.{Write, Store, Close, Rename, Remove, Abandon, Kept, Unsynced, Gone}
 use Rattle.out_file.specs.declared.step.Went.TheVariants.{Wrong}
 use Rattle.out_file.specs.declared.draft.Draft.{Draft}
-use Rattle.out_file.specs.declared.saved.Saved.TheVariants.{Kept as kept, Told}
 use Rattle.out_file.specs.Saving.{Decided}
 use Rattle.files.specs.contracts.reading.got_of as GotOf
 use Rattle.files.specs.contracts.reading.read_some as ReadSome
@@ -76,17 +73,17 @@ draft_lent step = record { ref_ptr = (0, 0); now = draft_at step }
 pub record Saving (κ : Lft) (rt : Runtime) (file : Opened) : Type 0 where
   -- the theorems over every list of answers, of the calls that save a file and of reads: a failed read is never taken for the end
   pub decided : Decided
-  pub never_the_end : (reads : List Read) (n : ℕ) → stands_after (Bytes n) reads ≡ End → Ended reads
+  pub never_the_end : (reads : List Read) (n : ℕ) → stands_after (Ok (Some n)) reads ≡ (Ok None) → Ended reads
   -- `got_of`: a failed read taken for the end; one for which there is no room; more bytes than there is room for
   pub got_of : OneAnswer GotOfSays
-  pub got_of_failed : Tells (GotOfSays (one κ)) (negsuc 0, (5, (lent (ascii "...."), tt))) (Failed 5) End
-  pub got_of_no_room : Tells (GotOfSays (one κ)) (pos 0, (5, (lent (ascii ""), tt))) (Failed 5) End
-  pub got_of_more : Tells (GotOfSays (one κ)) (pos 9, (5, (lent (ascii "...."), tt))) (Bytes 4) (Bytes 9)
+  pub got_of_failed : Tells (GotOfSays (one κ)) (negsuc 0, (5, (lent (ascii "...."), tt))) (Err 5) (Ok None)
+  pub got_of_no_room : Tells (GotOfSays (one κ)) (pos 0, (5, (lent (ascii ""), tt))) (Err 5) (Ok None)
+  pub got_of_more : Tells (GotOfSays (one κ)) (pos 9, (5, (lent (ascii "...."), tt))) (Ok (Some 4)) (Ok (Some 9))
   -- `read_some`: more bytes than there is room for; no byte, which is the end
-  pub read_some_room : Tells (ReadSomeSays (three κ)) (file, (lent_mut (ascii "...."), tt)) (Bytes 4) (Bytes 5)
-  pub read_some_none : Tells (ReadSomeSays (three κ)) (file, (lent_mut (ascii "...."), tt)) End (Bytes 0)
+  pub read_some_room : Tells (ReadSomeSays (three κ)) (file, (lent_mut (ascii "...."), tt)) (Ok (Some 4)) (Ok (Some 5))
+  pub read_some_none : Tells (ReadSomeSays (three κ)) (file, (lent_mut (ascii "...."), tt)) (Ok None) (Ok (Some 0))
   -- `read_all`: more bytes than there is room for
-  pub read_all_room : Tells (ReadAllSays (three κ)) (file, (lent_mut (ascii "...."), tt)) (loaded 4) (loaded 5)
+  pub read_all_room : Tells (ReadAllSays (three κ)) (file, (lent_mut (ascii "...."), tt)) (Ok (Some 4)) (Ok (Some 5))
   -- `Step::next`: a name for a file that could not be closed; a file stored that is not to stay
   pub next : OneAnswer NextSays
   pub next_unclosed : Tells (NextSays tt) (Close, (Wrong, tt)) Remove Rename
@@ -112,5 +109,5 @@ pub record Saving (κ : Lft) (rt : Runtime) (file : Opened) : Type 0 where
   pub discard_left : Tells (DiscardSays (two κ)) (draft_at Write, (rt, (lent (ascii "a"), tt))) (draft_at Gone) (draft_at Remove)
   -- `Draft::saved`: a failed sync not told; a file that is gone told as kept
   pub saved : OneAnswer SavedAsSays
-  pub saved_unsynced : Tells (SavedAsSays tt) (draft_at Unsynced, tt) (Told (System Sync 28)) kept
-  pub saved_gone : Tells (SavedAsSays tt) (draft_at Gone, tt) (Told (System Writing 28)) kept
+  pub saved_unsynced : Tells (SavedAsSays tt) (draft_at Unsynced, tt) (Err (System Sync 28)) (Ok tt)
+  pub saved_gone : Tells (SavedAsSays tt) (draft_at Gone, tt) (Err (System Writing 28)) (Ok tt)

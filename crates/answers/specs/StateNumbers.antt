@@ -1,5 +1,5 @@
 -- What the contracts of states as numbers, there and back, are held to. Behind a function's name: the wrong programs that are ruled out.
-use Rattle.std.specs.Prelude.{ℕ, List, [], ◌∷◌, true, replicate}
+use Rattle.std.specs.Prelude.{ℕ, List, [], ◌∷◌, true, replicate, Err, None, Some}
 use Rattle.refusal.specs.declared.Cause.TheVariants.{EditionUnknown, SequenceWrong, BytesAfterTheEnd}
 use Rattle.totals.specs.declared.two_sets.TwoSets.{TwoSets}
 use Rattle.card_run.specs.declared.stage.Stage.{Stage as CardStage}
@@ -7,9 +7,6 @@ use Rattle.card_run.specs.declared.stage.Stage.TheVariants.{Start, InBatch, Refu
 use Rattle.card_run.specs.declared.running.Running.{Running as CardRunning}
 use Rattle.payroll_run.specs.declared.stage.Stage.TheVariants.{Start as AtStart, BetweenBatches, Ended, Refused as Stopped}
 use Rattle.payroll_run.specs.declared.running.Running.{Running as PayrollRunning}
-use Rattle.payroll_file.specs.declared.answer.PayrollAnswer.TheVariants.{Refused as refused}
-use Rattle.payroll_stream.specs.declared.Progress.{Progress}
-use Rattle.payroll_stream.specs.declared.Progress.TheVariants.{GoingOn, Answered}
 use Rattle.payroll_stream.specs.declared.feeding.Feeding.{Feeding}
 use Rattle.answers.specs.CardRun.{adjusted, numbers_with, batch, refusal, one_sale, one_forecast, opened}
 use Rattle.answers.specs.PayrollFile.{state, opened as payroll_opened, accepted}
@@ -20,6 +17,7 @@ use Rattle.state_numbers.specs.contracts.payroll.numbers as PayrollNumbers
 use Rattle.state_numbers.specs.contracts.payroll.feeding_of as FeedingOf
 use borrow.Fn.Read.{r_last}
 use Rattle.answers.specs.Held.{Claim, fact_of, logic, memory, run, OneAnswer, Tells, lent, one}
+use Rattle.payroll_stream.specs.Stream.{PayrollProgress}
 
 -- what each contract says
 abbrev CardNumbersSays : Claim CardNumbers.ended
@@ -45,7 +43,7 @@ card_list stage number at column =
     stage ∷ number ∷ at ∷ column ∷ 2 ∷ 20240229 ∷ 1 ∷ 4 ∷ 0 ∷ 0 ∷ 0 ∷ 0 ∷ 0 ∷ 1 ∷ 10000 ∷ 250 ∷ 9750 ∷ 1 ∷ 975 ∷ 0 ∷ 0 ∷ 2 ∷ 10975 ∷ 0 ∷ []
 
 -- a payroll file with an answer or none, and behind the header of a return
-abbrev pub feeding : PayrollRunning → Progress → Feeding
+abbrev pub feeding : PayrollRunning → PayrollProgress → Feeding
 feeding st progress = record { state = st; progress = progress }
 
 abbrev returned : Feeding
@@ -61,7 +59,7 @@ returned =
             amount = 0;
             batch = record { records = 0; details = 0; sum = 0 };
           };
-      progress = GoingOn;
+      progress = None;
     }
 
 -- its numbers, with a number for the return; and those of a file that has ended, with a refusal and whether the file is accepted
@@ -87,9 +85,9 @@ pub record StateNumbers (κ : Lft) : Type 0 where
   -- `payroll::numbers`: that it is a return left out; the answer left out
   pub payroll_numbers_lem : OneAnswer PayrollNumbersSays
   pub payroll_return : Tells (PayrollNumbersSays tt) (returned, tt) (returned_list 1) (returned_list 0)
-  pub payroll_answer_lem : Tells (PayrollNumbersSays tt) (feeding (state Ended 5 3 1 10000) (Answered (accepted 1 10000)), tt) accepted_list (refused_list 0 0)
+  pub payroll_answer_lem : Tells (PayrollNumbersSays tt) (feeding (state Ended 5 3 1 10000) (Some (accepted 1 10000)), tt) accepted_list (refused_list 0 0)
   -- `payroll::feeding_of`: zeros taken for an open file; an accepted file taken for one that goes on; a refusal behind the end forgotten
   pub feeding_of_lem : OneAnswer FeedingOfSays
-  pub feeding_of_zeros : Tells (FeedingOfSays (one κ)) (lent (replicate 20 0), tt) (feeding (payroll_opened (Stopped (refusal EditionUnknown 0 0))) GoingOn) (feeding (payroll_opened AtStart) GoingOn)
-  pub feeding_of_accepted : Tells (FeedingOfSays (one κ)) (lent accepted_list, tt) (feeding (state Ended 5 3 1 10000) (Answered (accepted 1 10000))) (feeding (state Ended 5 3 1 10000) GoingOn)
-  pub feeding_of_refused : Tells (FeedingOfSays (one κ)) (lent (refused_list 13 6), tt) (feeding (state Ended 5 3 1 10000) (Answered (refused (refusal BytesAfterTheEnd 6 0)))) (feeding (state Ended 5 3 1 10000) GoingOn)
+  pub feeding_of_zeros : Tells (FeedingOfSays (one κ)) (lent (replicate 20 0), tt) (feeding (payroll_opened (Stopped (refusal EditionUnknown 0 0))) None) (feeding (payroll_opened AtStart) None)
+  pub feeding_of_accepted : Tells (FeedingOfSays (one κ)) (lent accepted_list, tt) (feeding (state Ended 5 3 1 10000) (Some (accepted 1 10000))) (feeding (state Ended 5 3 1 10000) None)
+  pub feeding_of_refused : Tells (FeedingOfSays (one κ)) (lent (refused_list 13 6), tt) (feeding (state Ended 5 3 1 10000) (Some (Err (refusal BytesAfterTheEnd 6 0)))) (feeding (state Ended 5 3 1 10000) None)

@@ -1,21 +1,20 @@
 -- What the contracts of `text` are held to. Behind a function's name: the wrong programs that are ruled out.
-use Rattle.std.specs.Prelude.{true, false}
+use Rattle.std.specs.Prelude.{true, false, Err, None, Ok, Some}
 use Rattle.text.specs.Literal.{ascii}
 use Rattle.text.specs.declared.alphabet.Alphabet.TheVariants.{Digits, CardText, PlainAscii, DigitsAndStars}
-use Rattle.text.specs.declared.alphabet.Stray.TheVariants.{At, Nowhere}
-use Rattle.text.specs.declared.number.Number.TheVariants.{Of, NotDigits, TooLong}
 use base.Fml.{Lft}
 use Rattle.text.specs.contracts.alphabet.allows as Allows
 use Rattle.text.specs.contracts.alphabet.holds_only as HoldsOnly
 use Rattle.text.specs.contracts.alphabet.first_stray as FirstStray
 use Rattle.text.specs.contracts.number.number_of as NumberOf
-use Rattle.text.specs.contracts.number.Number.or_zero as OrZero
+use Rattle.text.specs.contracts.number.or_zero as OrZero
 use Rattle.text.specs.contracts.number.value_if_digits as ValueIfDigits
 use Rattle.text.specs.contracts.literal.equals as Equals
 use Rattle.text.specs.contracts.literal.is_one_of as IsOneOf
 use Rattle.text.specs.contracts.part.part_of as PartOf
 use borrow.Fn.Read.{r_last}
 use Rattle.answers.specs.Held.{Claim, fact_of, logic, memory, run, OneAnswer, OnePart, Tells, lent, part, one, two}
+use Rattle.text.specs.declared.number.NoNumber.TheVariants.{NotDigits, TooLong}
 
 -- what each contract says
 abbrev AllowsSays : Claim Allows.ended
@@ -65,17 +64,17 @@ pub record Text (κ : Lft) : Type 0 where
   pub holds_only_last : Tells (HoldsOnlySays (one κ)) (Digits, (lent (ascii "a1"), tt)) false true
   -- `first_stray`: counted from 1; the last of two; none behind 16 bytes that are right
   pub first_stray_lem : OneAnswer FirstStraySays
-  pub stray_from_one : Tells (FirstStraySays (one κ)) (Digits, (lent (ascii "12a4"), tt)) (At 2) (At 3)
-  pub stray_last : Tells (FirstStraySays (one κ)) (Digits, (lent (ascii "a1b"), tt)) (At 0) (At 2)
-  pub stray_behind_block : Tells (FirstStraySays (one κ)) (Digits, (lent (ascii "1234567890123456x"), tt)) (At 16) Nowhere
+  pub stray_from_one : Tells (FirstStraySays (one κ)) (Digits, (lent (ascii "12a4"), tt)) (Some 2) (Some 3)
+  pub stray_last : Tells (FirstStraySays (one κ)) (Digits, (lent (ascii "a1b"), tt)) (Some 0) (Some 2)
+  pub stray_behind_block : Tells (FirstStraySays (one κ)) (Digits, (lent (ascii "1234567890123456x"), tt)) (Some 16) None
   -- `number_of`: a value that wraps, 2^64 + 1; a blank passed over
   pub number_of_lem : OneAnswer NumberOfSays
-  pub number_wraps : Tells (NumberOfSays (one κ)) (lent (ascii "18446744073709551617"), tt) TooLong (Of 1)
-  pub number_blank : Tells (NumberOfSays (one κ)) (lent (ascii " 12"), tt) NotDigits (Of 12)
-  -- `Number::or_zero`: the largest number for one that is too long; 0 for every number
+  pub number_wraps : Tells (NumberOfSays (one κ)) (lent (ascii "18446744073709551617"), tt) (Err TooLong) (Ok 1)
+  pub number_blank : Tells (NumberOfSays (one κ)) (lent (ascii " 12"), tt) (Err NotDigits) (Ok 12)
+  -- `or_zero`: the largest number for one that is too long; 0 for every number
   pub or_zero : OneAnswer OrZeroSays
-  pub or_zero_top : Tells (OrZeroSays tt) (TooLong, tt) 0 18446744073709551615
-  pub or_zero_always : Tells (OrZeroSays tt) (Of 7, tt) 7 0
+  pub or_zero_top : Tells (OrZeroSays tt) ((Err TooLong), tt) 0 18446744073709551615
+  pub or_zero_always : Tells (OrZeroSays tt) (Ok 7, tt) 7 0
   -- `value_if_digits`: bytes weighed as they stand; 18 digits taken, which can leave 64 bits
   pub value_if_digits_lem : OneAnswer ValueIfDigitsSays
   pub value_of_bytes : Tells (ValueIfDigitsSays (one κ)) (lent (ascii "250"), tt) 250 5578

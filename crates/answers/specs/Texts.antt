@@ -1,24 +1,15 @@
 -- What the contracts of the texts that programs say are held to.
 -- Behind a function's name: the wrong programs that are ruled out.
-use Rattle.std.specs.Prelude.{ℕ, ◌-◌, List, [], ◌++◌, pos, length, take, replicate}
+use Rattle.std.specs.Prelude.{ℕ, ◌-◌, List, [], ◌++◌, length, take, replicate, Err, Ok, Some}
 use Prim.Native.String.{String}
 use base.Fml.{Lft}
 use Rattle.text.specs.Literal.{ascii}
 use Rattle.refusal.specs.declared.Refusal.{Refusal}
 use Rattle.refusal.specs.declared.Cause.TheVariants.{SequenceWrong}
 use Rattle.totals.specs.declared.amounts.Totals.{Totals}
-use Rattle.card_run.specs.declared.answer.CardAnswer.TheVariants.{Accepted, Refused}
-use Rattle.payroll_file.specs.declared.answer.PayrollAnswer.TheVariants.{Accepted as paid, Refused as unpaid}
-use Rattle.day_sheet.specs.declared.reader.SheetRead.TheVariants.{Read as sheet_read_lem}
 use Rattle.program.specs.declared.mistake.Mistake.{Mistake as Told}
 use Rattle.program.specs.declared.mistake.Mistake.TheVariants.{System}
 use Rattle.program.specs.declared.mistake.Failed.TheVariants.{Sync}
-use Rattle.card_program.specs.declared.outcome.Outcome.{Outcome as CardOutcome}
-use Rattle.card_program.specs.declared.outcome.Outcome.TheVariants.{Answer, Mistake}
-use Rattle.payroll_program.specs.declared.outcome.PayrollOutcome.{PayrollOutcome}
-use Rattle.payroll_program.specs.declared.outcome.PayrollOutcome.TheVariants.{Answer as answer_payroll, Mistake as mistake_payroll}
-use Rattle.sheet_program.specs.declared.read.SheetOutcome.{SheetOutcome}
-use Rattle.sheet_program.specs.declared.read.SheetOutcome.TheVariants.{Read as read_sheet, Mistake as mistake_sheet}
 use Rattle.card_program.specs.declared.verdict.Lines.TheVariants.{Sales, Adjustments}
 use Rattle.wording.specs.contracts.put.text as PutText
 use Rattle.wording.specs.contracts.put.number as PutNumber
@@ -30,6 +21,7 @@ use Rattle.card_program.specs.contracts.verdict.put_sets as PutSets
 use Rattle.card_program.specs.contracts.verdict.put_outcome as PutOutcome
 use Rattle.payroll_program.specs.contracts.verdict.put_outcome as PutPayroll
 use Rattle.sheet_program.specs.contracts.verdict.put_outcome as PutSheet
+use Rattle.files.specs.declared.writing.Standard.TheVariants.{Output, Error}
 use Rattle.card_program.specs.contracts.verdict.descriptor as Descriptor
 use Rattle.payroll_program.specs.contracts.verdict.descriptor as PayrollDescriptor
 use Rattle.sheet_program.specs.contracts.verdict.descriptor as SheetDescriptor
@@ -39,6 +31,9 @@ use Rattle.answers.specs.Samples.{room}
 use Rattle.answers.specs.Totals.{amounts, totals_of}
 use Rattle.answers.specs.CardRun.{refusal, one_sale, adjusted, numbers_with, accepted}
 use Rattle.answers.specs.DaySheet.{sheet_of, both_sets}
+use Rattle.card_program.specs.Outcome.{Outcome}
+use Rattle.payroll_program.specs.Outcome.{PayrollOutcome}
+use Rattle.sheet_program.specs.SheetRead.{SheetOutcome}
 
 -- what each contract says
 abbrev PutTextSays : Claim PutText.ended
@@ -91,8 +86,8 @@ late = refusal SequenceWrong 3 194
 abbrev day : Totals
 day = totals_of 4 (amounts 65990 1650 64340)
 
-abbrev example : CardOutcome
-example = Answer (accepted 5 1 one_sale)
+abbrev example : Outcome
+example = Ok (accepted 5 1 one_sale)
 
 -- document 01's example, as it is printed with both sets
 abbrev pub eleven_lines : String
@@ -100,23 +95,23 @@ eleven_lines =
     "ACCEPTED\nRECORDS 5\nBATCHES 1\nFORECAST SALES 0\nFORECAST GROSS 0\nFORECAST DISCOUNT 0\nFORECAST NET 0\nSETTLED SALES 1\nSETTLED GROSS 10000\nSETTLED DISCOUNT 250\nSETTLED NET 9750\n"
 
 -- with two credits and a debit
-abbrev example_adjusted : CardOutcome
-example_adjusted = Answer (Accepted (numbers_with 7 1 one_sale (adjusted 2 4425) (adjusted 1 4875)))
+abbrev example_adjusted : Outcome
+example_adjusted = Ok (Some (Ok (numbers_with 7 1 one_sale (adjusted 2 4425) (adjusted 1 4875))))
 
-abbrev late_card : CardOutcome
-late_card = Answer (Refused late)
+abbrev late_card : Outcome
+late_card = Ok (Some (Err late))
 
 abbrev wages : PayrollOutcome
-wages = answer_payroll (paid (record { records = 9; batches = 2; payments = 3; amount = 1301625 }))
+wages = Ok (Ok (record { records = 9; batches = 2; payments = 3; amount = 1301625 }))
 
 abbrev late_payroll : PayrollOutcome
-late_payroll = answer_payroll (unpaid late)
+late_payroll = Ok (Err late)
 
 abbrev day_sheet : SheetOutcome
-day_sheet = read_sheet (sheet_read_lem (sheet_of 2 9750))
+day_sheet = Ok (Ok (sheet_of 2 9750))
 
 abbrev split_sheet : SheetOutcome
-split_sheet = read_sheet (sheet_read_lem both_sets)
+split_sheet = Ok (Ok both_sets)
 
 abbrev unsynced : Told
 unsynced = System Sync 13
@@ -265,11 +260,11 @@ pub record Texts (κ : Lft) : Type 0 where
       (record { answer = 93; exit = (split_sheet, (lent_mut (shown 225 "EDITION 2\nDATE 20240229\nMOVEMENT 000001\nBATCHES 1\nSALES 3\nGROSS 30000\nDISCOUNT 750\nNET 29250\n"), (0, tt))) })
   -- `descriptor` of each program: a verdict to standard error; a mistake to standard output
   pub card_to : OneAnswer DescriptorSays
-  pub card_to_error : Tells (DescriptorSays tt) (example, tt) (pos 1) (pos 2)
-  pub card_to_output : Tells (DescriptorSays tt) (Mistake unsynced, tt) (pos 2) (pos 1)
+  pub card_to_error : Tells (DescriptorSays tt) (example, tt) Output Error
+  pub card_to_output : Tells (DescriptorSays tt) (Err unsynced, tt) Error Output
   pub payroll_to : OneAnswer PayrollDescriptorSays
-  pub payroll_to_error : Tells (PayrollDescriptorSays tt) (wages, tt) (pos 1) (pos 2)
-  pub payroll_to_output : Tells (PayrollDescriptorSays tt) (mistake_payroll unsynced, tt) (pos 2) (pos 1)
+  pub payroll_to_error : Tells (PayrollDescriptorSays tt) (wages, tt) Output Error
+  pub payroll_to_output : Tells (PayrollDescriptorSays tt) (Err unsynced, tt) Error Output
   pub sheet_to : OneAnswer SheetDescriptorSays
-  pub sheet_to_error : Tells (SheetDescriptorSays tt) (day_sheet, tt) (pos 1) (pos 2)
-  pub sheet_to_output : Tells (SheetDescriptorSays tt) (mistake_sheet unsynced, tt) (pos 2) (pos 1)
+  pub sheet_to_error : Tells (SheetDescriptorSays tt) (day_sheet, tt) Output Error
+  pub sheet_to_output : Tells (SheetDescriptorSays tt) (Err unsynced, tt) Error Output

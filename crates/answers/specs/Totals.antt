@@ -1,6 +1,5 @@
 -- What the contracts of `totals` are held to. Behind a function's name: the wrong programs that are ruled out.
-use Rattle.std.specs.Prelude.{ℕ, true, false}
-use Rattle.totals.specs.declared.sum.Sum.TheVariants.{Of, Over}
+use Rattle.std.specs.Prelude.{ℕ, true, false, None, Some}
 use Rattle.totals.specs.declared.amounts.Amounts.{Amounts}
 use Rattle.totals.specs.declared.amounts.Totals.{Totals as TotalsOf}
 use Rattle.totals.specs.declared.two_sets.TwoSets.{TwoSets}
@@ -73,8 +72,8 @@ largest = 18446744073709551615
 pub record Totals : Type 0 where
   -- `checked`: a sum that wraps; the largest number left out
   pub checked : OneAnswer CheckedSays
-  pub checked_wraps : Tells (CheckedSays tt) (largest, (1, tt)) Over (Of 0)
-  pub checked_largest : Tells (CheckedSays tt) (largest, (0, tt)) (Of largest) Over
+  pub checked_wraps : Tells (CheckedSays tt) (largest, (1, tt)) None (Some 0)
+  pub checked_largest : Tells (CheckedSays tt) (largest, (0, tt)) (Some largest) None
   -- `added`: a sum that wraps; the top for every sum
   pub added : OneAnswer AddedSays
   pub added_wraps : Tells (AddedSays tt) (largest, (1, tt)) largest 0

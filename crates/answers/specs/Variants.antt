@@ -1,6 +1,6 @@
 -- What the demands are held to: of each a variant with a hypothesis dropped or a definition changed, which does not hold. Each names the field that it
 -- is a variant of.
-use Rattle.std.specs.Prelude.{ℕ, suc, ◌+◌, ◌^◌, ◌≤◌, ◌≡◌, ◌↔◌, true, false, cond, ◌&&◌, length, get_or, take, drop, replicate, eqb}
+use Rattle.std.specs.Prelude.{ℕ, suc, ◌+◌, ◌^◌, ◌≤◌, ◌≡◌, ◌↔◌, true, false, cond, ◌&&◌, length, get_or, take, drop, replicate, eqb, Err, Ok, Some}
 use mathlib.Core.List.{List, [], ◌∷◌, ◌++◌, map, foldl}
 use Rattle.refusal.specs.declared.Cause.TheVariants.{EditionUnknown, EditionRetired}
 use Rattle.refusal.specs.declared.Refusal.{Refusal}
@@ -17,14 +17,12 @@ use Rattle.first_fault.specs.InTurn.{records_in, pieces_hold, ComesBehind}
 use Rattle.edition.specs.Known.{current, retired, known}
 use Rattle.card_content.specs.EqualOutside.{EqualOutside}
 use Rattle.card_record.specs.declared.kind.Kind.{Kind}
-use Rattle.card_record.specs.declared.kind.KindFound.TheVariants.{Known}
 use Rattle.card_record.specs.Kind.{kind_of}
 use Rattle.card_record.specs.Reading.{reading_of}
 use Rattle.card_quick.specs.Quick.{passes_quick}
 use Rattle.card_run.specs.declared.running.Running.{Running}
-use Rattle.card_run.specs.declared.answer.CardAnswer.{CardAnswer}
 use Rattle.card_run.specs.Running.{open_of, next_number, closed_of}
-use Rattle.card_run.specs.Answer.{answer_of, going_on_row, refused_row, card_file_row}
+use Rattle.card_run.specs.Answer.{answer_of, going_on_row, refused_row, card_file_row, CardAnswer}
 use Rattle.card_file.specs.Feeding.{fed_of, fed_all}
 use Rattle.card_file.specs.CardFile.{check_of}
 use Rattle.card_kept.specs.FirstFault.{FirstFaultOfRecord, rules_behind, FirstFaultDecides}
@@ -38,7 +36,6 @@ use Rattle.card_mask.specs.Mask.{Masks}
 use Rattle.card_mask.specs.Masked.{masked_file, MasksLines}
 use Rattle.card_stream.specs.declared.Stream.{Stream}
 use Rattle.card_stream.specs.Stream as stream
-use Rattle.files.specs.declared.reading.Got.{Got}
 use Rattle.adjustment_rows.specs.declared.rows.Rows.{Rows}
 use Rattle.adjustment_rows.specs.Fields.{quoted}
 use Rattle.adjustment_rows.specs.Row.{row_of}
@@ -51,20 +48,17 @@ use Rattle.card_program.specs.Verdict.{verdict_text, outcome_text}
 use Rattle.payroll_record.specs.declared.kind.Kind.TheVariants.{BatchTrailer, FileTrailer}
 use Rattle.payroll_run.specs.declared.running.Running.{Running as PayrollRunning}
 use Rattle.payroll_file.specs.Answer.{payroll_row}
+use Rattle.payroll_stream.specs.Stream.{PayrollProgress}
 use Rattle.payroll_file.specs.PayrollFile.{check_of as payroll_check_of}
 use Rattle.payroll_kept.specs.FirstFault as PayrollRecord
 use Rattle.payroll_kept.specs.FirstFaultOfFile as PayrollFile
 use Rattle.payroll_kept.specs.Kept as payroll
 use Rattle.payroll_kept.specs.Limits as PayrollLimits
 use Rattle.payroll_kept.specs.State as PayrollState
-use Rattle.payroll_stream.specs.declared.Progress.{Progress}
 use Rattle.payroll_stream.specs.declared.feeding.Feeding.{Feeding}
 use Rattle.payroll_stream.specs.Stream.{progress_row}
 use Rattle.payroll_stream.specs.Feeding.{open_feeding, closed_with, fed_all as feeding_all, answer_of as feeding_answer}
 use Rattle.sheet_numbers.specs.declared.sheet.Sheet.{Sheet}
-use Rattle.day_sheet.specs.declared.reader.SheetRead.TheVariants.{Read}
-use Rattle.day_sheet.specs.declared.writer.SheetWritten.{SheetWritten}
-use Rattle.day_sheet.specs.declared.writer.SheetWritten.TheVariants.{Written, Refused as not_written}
 use Rattle.day_sheet.specs.Sheet.{bytes_of}
 use Rattle.sheet_numbers.specs.Allowed.{sheet_allowed}
 use Rattle.day_sheet.specs.Reading.{read_of}
@@ -72,6 +66,7 @@ use Rattle.day_sheet.specs.Writing.{Writes}
 use Rattle.sheet_numbers.specs.Converted.{converted}
 use Rattle.day_sheet.specs.Conversion.{Converts, converted_bytes}
 use Rattle.day_sheet.specs.Answer.{read_row}
+use Rattle.day_sheet.specs.Writing.{SheetWritten}
 use Rattle.answer_rows.specs.Card.{card_numbers}
 use Rattle.answer_rows.specs.Payroll.{payroll_numbers, progress_numbers}
 use Rattle.state_numbers.specs.CardState.{state_numbers, state_of}
@@ -107,6 +102,7 @@ use Rattle.demands.specs.RowsOfFile.{plain_rows}
 use Rattle.demands.specs.SameWay.{ways_of, sizes_of}
 use Rattle.demands.specs.ToldAlike.{ComeAlike}
 use Rattle.demands.specs.TwinsMade.{DigitsChanged}
+use Rattle.files.specs.Loaded.{Got}
 
 -- a demand, and a variant of it that does not hold
 abbrev pub NotSo : {Right : Type 0} → Right → Type 0 → Type 0
@@ -134,7 +130,7 @@ pub record Variants (d : Demands) : Type 0 where
       ((edition : ℕ) → current edition ≡ true → (file : List ℕ) → 5 ≤ length (cut file).pieces →
       (refusal : Refusal) × (card_file_row (check_of edition file) ≡ refused_row refusal) × (refusal.«record» ≤ 5))
   pub millionth_record : NotSo d.millionth_record.by_nine
-      ((edition : ℕ) (file : List ℕ) (earlier : List (List ℕ)) (p : List ℕ) → current edition ≡ true → ComesBehind (rules_behind edition) file earlier p → (kind : Kind) → kind_of (without_last p) ≡ Known kind →
+      ((edition : ℕ) (file : List ℕ) (earlier : List (List ℕ)) (p : List ℕ) → current edition ≡ true → ComesBehind (rules_behind edition) file earlier p → (kind : Kind) → kind_of (without_last p) ≡ Some kind →
       all_hold (before_joined (plain_state edition (records_in earlier)) kind p) ≡ true → (card_file_row (check_of edition file)).refusal.number ≡ 9)
   -- too large for four digits; of one sale
   pub too_large : NotSo d.sum_of_no_trailer.too_large
@@ -177,20 +173,20 @@ pub record Variants (d : Demands) : Type 0 where
   pub payroll_rules_kept : NotSo d.payroll_rules_kept
       ((bytes : List ℕ) → ((payroll_row (payroll_check_of bytes)).accepted ≡ true) ↔ payroll.Kept (bytes ++ (26 ∷ [])))
   -- of numbers that are not allowed too
-  pub sheet_there_and_back : NotSo d.sheet_there_and_back.reads_back ((s : Sheet) → read_row (read_of (bytes_of s)) ≡ read_row (Read s))
+  pub sheet_there_and_back : NotSo d.sheet_there_and_back.reads_back ((s : Sheet) → read_row (read_of (bytes_of s)) ≡ read_row (Ok s))
   -- of edition 1 too: that we would write it; of a known split too: that conversion writes it; of every sheet: that none is written
   pub the_one_we_write : NotSo d.sheet_there_and_back.the_one_we_write
-      ((l : List ℕ) (s : Sheet) → read_row (read_of l) ≡ read_row (Read s) → Writes s (replicate (length l) 0) Written l)
+      ((l : List ℕ) (s : Sheet) → read_row (read_of l) ≡ read_row (Ok s) → Writes s (replicate (length l) 0) (Ok tt) l)
   pub the_one_conversion_writes : NotSo d.sheet_there_and_back.the_one_conversion_writes
-      ((l : List ℕ) (s : Sheet) → read_row (read_of l) ≡ read_row (Read s) → Converts (converted_bytes l) (replicate (length l) 0) Written l)
-  pub none_new : NotSo d.sheet_there_and_back.none_new ((s : Sheet) (out : List ℕ) → Writes s out (not_written (nowhere EditionRetired)) out)
+      ((l : List ℕ) (s : Sheet) → read_row (read_of l) ≡ read_row (Ok s) → Converts (converted_bytes l) (replicate (length l) 0) (Ok tt) l)
+  pub none_new : NotSo d.sheet_there_and_back.none_new ((s : Sheet) (out : List ℕ) → Writes s out (Err (nowhere EditionRetired)) out)
   -- two sheets that differ, one of which is not allowed
   pub sheets_different : NotSo d.sheet_there_and_back.different ((s t : Sheet) → sheet_allowed s ≡ true → bytes_of s ≡ bytes_of t → s ≡ t)
   -- of bytes that are no readable sheet too
-  pub sheet_converted : NotSo d.sheet_converted.readable ((s : Sheet) → read_row (read_of (converted_bytes (bytes_of s))) ≡ read_row (Read (converted s)))
+  pub sheet_converted : NotSo d.sheet_converted.readable ((s : Sheet) → read_row (read_of (converted_bytes (bytes_of s))) ≡ read_row (Ok (converted s)))
   -- of edition 1 too: that converting is writing
   pub as_written_lem : NotSo d.sheet_converted.as_written_lem
-      ((l : List ℕ) (s : Sheet) → read_row (read_of l) ≡ read_row (Read s) → (out : List ℕ) (answer : SheetWritten) (after : List ℕ) →
+      ((l : List ℕ) (s : Sheet) → read_row (read_of l) ≡ read_row (Ok s) → (out : List ℕ) (answer : SheetWritten) (after : List ℕ) →
       Converts l out answer after → Writes (converted s) out answer after)
   -- from version 2 and back, also where the split is known
   pub from_two_and_back : NotSo d.sheet_converted.from_two_and_back
@@ -260,7 +256,7 @@ pub record Variants (d : Demands) : Type 0 where
   pub not_opened : NotSo d.kept_as_numbers.not_opened ((l : List ℕ) → get_or l 0 0 ≡ 0 → card_row_of l ≡ 1 ∷ replicate 19 0)
   -- rows without their last number, whether the file is accepted
   pub card_row : NotSo d.kept_as_numbers.rows_fix_answers.card ((a b : CardAnswer) → take 19 (card_numbers a) ≡ take 19 (card_numbers b) → a ≡ b)
-  pub payroll_row_lem : NotSo d.kept_as_numbers.rows_fix_answers.payroll ((p q : Progress) → take 7 (progress_numbers p) ≡ take 7 (progress_numbers q) → p ≡ q)
+  pub payroll_row_lem : NotSo d.kept_as_numbers.rows_fix_answers.payroll ((p q : PayrollProgress) → take 7 (progress_numbers p) ≡ take 7 (progress_numbers q) → p ≡ q)
   -- of any two files of the same length
   pub hidden_digits_reach_nothing : NotSo d.hidden_digits_reach_nothing
       ((edition : ℕ) (s t : List ℕ) → length s ≡ length t → card_file_row (check_of edition s) ≡ card_file_row (check_of edition t))

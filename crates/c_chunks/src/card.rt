@@ -32,11 +32,9 @@ fn keep(
 )
     ensures { KeepsCard stream state.new waiting.new held.new }
 {
-    let running = stream.state;
-    let unfinished = stream.held;
-    let bytes = unfinished.bytes;
-    *state = card::numbers(running);
-    *waiting = unfinished.length;
+    *state = card::numbers(stream.state);
+    *waiting = stream.held.length;
+    let bytes = stream.held.bytes;
     *held = bytes;
 }
 

@@ -16,15 +16,13 @@ fn kept(state: &[u64; STATE_NUMBERS], waiting: usize, held: &[u8; ROOM]) -> Stre
     ensures { result ≡ payroll_stream state.now waiting held.now }
 {
     let feeding = payroll::feeding_of(state);
-    let running = feeding.state;
-    let progress = feeding.progress;
     Stream {
-        state: running,
+        state: feeding.state,
         held: Unfinished {
             bytes: *held,
             length: waiting,
         },
-        progress,
+        progress: feeding.progress,
     }
 }
 
@@ -37,16 +35,12 @@ fn keep(
 )
     ensures { KeepsPayroll stream state.new waiting.new held.new }
 {
-    let running = stream.state;
-    let unfinished = stream.held;
-    let bytes = unfinished.bytes;
-    let progress = stream.progress;
-    let feeding = Feeding {
-        state: running,
-        progress,
-    };
-    *state = payroll::numbers(feeding);
-    *waiting = unfinished.length;
+    *state = payroll::numbers(Feeding {
+        state: stream.state,
+        progress: stream.progress,
+    });
+    *waiting = stream.held.length;
+    let bytes = stream.held.bytes;
     *held = bytes;
 }
 

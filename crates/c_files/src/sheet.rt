@@ -1,5 +1,5 @@
 // Day sheets: read, written and converted.
-ghost use Rattle.std.specs.Prelude.{◌≡◌, ◌∷◌};
+ghost use Rattle.std.specs.Prelude.{◌≡◌, ◌∷◌, ℕ, ◌≤◌, length};
 ghost use Rattle.day_sheet.specs.declared.layout.Version.TheVariants.{One, Two};
 ghost use Rattle.day_sheet.specs.Sheet.{sheet_of};
 ghost use Rattle.day_sheet.specs.Reading.{read_of};
@@ -9,7 +9,7 @@ ghost use Rattle.answer_rows.specs.Sheet.{sheet_numbers, written_numbers};
 ghost use Rattle.c_files.specs.Told.{Told};
 
 use answer_rows::sheet::{SHEET_NUMBERS, WRITTEN_NUMBERS, sheet_row, written_row};
-use day_sheet::layout::Version;
+use day_sheet::layout::{PLACES, Version};
 
 // How many numbers a sheet of each version has behind its version.
 const NUMBERS_1: usize = 8;
@@ -24,6 +24,17 @@ pub extern "C" fn lossivurn_sheet_read(bytes: &[u8], row: &mut [u64; SHEET_NUMBE
     *row = sheet_row(day_sheet::reader::read(bytes));
 }
 
+// Writes a new day sheet of a version, whose numbers these are in the layout's order, behind the version: the row of the answer.
+fn write(version: Version, numbers: &[u64], out: &mut [u8]) -> [u64; WRITTEN_NUMBERS]
+    requires { length numbers.now ≤ 13 }
+    ensures { (number : ℕ) → Told written_numbers (Writes (sheet_of version (number ∷ numbers.now)) out.old) result out.new }
+{
+    let mut places = [0; PLACES];
+    places[1..=numbers.len()].copy_from_slice(numbers);
+    let sheet = day_sheet::row::sheet_of(version, places);
+    written_row(day_sheet::writer::write(sheet, out))
+}
+
 // Writes a new day sheet of version 1, whose numbers these are in the layout's order, behind the version.
 #[unsafe(no_mangle)]
 pub extern "C" fn lossivurn_sheet_write_1(
@@ -33,12 +44,7 @@ pub extern "C" fn lossivurn_sheet_write_1(
 )
     ensures { Told written_numbers (Writes (sheet_of One (1 ∷ numbers.now)) out.old) row.new out.new }
 {
-    let n = *numbers;
-    let places = [
-        1, n[0], n[1], n[2], n[3], n[4], n[5], n[6], n[7], 0, 0, 0, 0, 0,
-    ];
-    let sheet = day_sheet::row::sheet_of(Version::One, places);
-    *row = written_row(day_sheet::writer::write(sheet, out));
+    *row = write(Version::One, numbers, out);
 }
 
 // Writes a new day sheet of version 2.
@@ -50,12 +56,7 @@ pub extern "C" fn lossivurn_sheet_write_2(
 )
     ensures { Told written_numbers (Writes (sheet_of Two (2 ∷ numbers.now)) out.old) row.new out.new }
 {
-    let n = *numbers;
-    let places = [
-        2, n[0], n[1], n[2], n[3], n[4], n[5], n[6], n[7], n[8], n[9], n[10], n[11], n[12],
-    ];
-    let sheet = day_sheet::row::sheet_of(Version::Two, places);
-    *row = written_row(day_sheet::writer::write(sheet, out));
+    *row = write(Version::Two, numbers, out);
 }
 
 // Writes a sheet in the other version into the first bytes of the output.

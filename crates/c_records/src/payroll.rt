@@ -11,6 +11,7 @@ use state_numbers::payroll;
 use state_numbers::payroll::STATE_NUMBERS;
 
 // The state of a file of which nothing has come: its first stage, and zeros. Written out, so that `take` alone makes numbers of a state.
+#[tactic(auto, unfolding(payroll_stream::specs::Stream::progress_row, state_numbers::specs::PayrollState::feeding_numbers))]
 #[unsafe(no_mangle)]
 pub extern "C" fn lossivurn_payroll_open(state: &mut [u64; STATE_NUMBERS])
     ensures { state.new ≡ feeding_numbers open_feeding }
@@ -18,7 +19,8 @@ pub extern "C" fn lossivurn_payroll_open(state: &mut [u64; STATE_NUMBERS])
     *state = [1, 0, 0, 0, 0, 0, 0, 0, 0, 0, 0, 0, 0, 0, 0, 0, 0, 0, 0, 0];
 }
 
-// What is done with the bytes that a call hands over.
+// What is done with the bytes that a call hands over. An enum and no closure, of which each call would have a copy of `take` and of `numbers` its own: a file by records then takes
+// 124 million instructions and not 121.
 #[derive(Clone, Copy)]
 enum Call {
     Feed,
@@ -26,6 +28,7 @@ enum Call {
 }
 
 // A file behind a call.
+#[tactic(auto, unfolding(crate::specs::Call::called_of))]
 fn called(call: Call, feeding: Feeding, bytes: &[u8]) -> Feeding
     ensures { result ≡ called_of call feeding bytes.now }
 {
@@ -44,6 +47,7 @@ fn take(call: Call, state: &mut [u64; STATE_NUMBERS], bytes: &[u8])
 }
 
 // Takes the next record, without its line end.
+#[tactic(auto, unfolding(crate::specs::Call::called_of))]
 #[unsafe(no_mangle)]
 pub extern "C" fn lossivurn_payroll_feed(state: &mut [u64; STATE_NUMBERS], bytes: &[u8])
     ensures { state.new ≡ feeding_numbers (fed_of (feeding_of state.old) bytes.now) }
@@ -52,6 +56,7 @@ pub extern "C" fn lossivurn_payroll_feed(state: &mut [u64; STATE_NUMBERS], bytes
 }
 
 // No record comes any more; these bytes stand behind the last line end.
+#[tactic(auto, unfolding(crate::specs::Call::called_of))]
 #[unsafe(no_mangle)]
 pub extern "C" fn lossivurn_payroll_close(state: &mut [u64; STATE_NUMBERS], rest: &[u8])
     ensures { state.new ≡ feeding_numbers (closed_with (feeding_of state.old) rest.now) }

@@ -1,4 +1,3 @@
-mod Tested
 pub mod Whens
 pub mod Months
 pub mod AsListed

@@ -12,9 +12,9 @@ use Rattle.text.specs.Alphabet.{holds_only}
 use Rattle.text.specs.declared.alphabet.Alphabet.TheVariants.{Digits}
 use Rattle.text.specs.Number.{value_of}
 use Rattle.text.proofs.Alphabets.{both, both_left, both_right}
-use Rattle.calendar.specs.declared.when.When.{When}
-use Rattle.calendar.specs.declared.when.When.TheVariants.{NotDigits, NoSuch, At}
-use Rattle.calendar.specs.When.{only_if}
+use Rattle.std.specs.Prelude.{Ok, Err}
+use Rattle.calendar.specs.declared.when.Unreadable.TheVariants.{NotDigits, NoSuch}
+use Rattle.calendar.specs.When.{When, only_if}
 use Rattle.calendar.specs.Day.{is_day, turned, turned_round, year_first, day_first}
 use Rattle.calendar.specs.Time.{is_time, time_of}
 
@@ -27,32 +27,32 @@ pub record Says (width : ℕ) (test : ℕ → Bool) (value : ℕ) (s : List ℕ)
 
 -- what each answer means, and when it is given
 pub record Means (width : ℕ) (test : ℕ → Bool) (value : ℕ) (s : List ℕ) (answer : When) : Type 0 where
-  pub at : (n : ℕ) → answer ≡ At n → Says width test value s n
-  pub at_if : (n : ℕ) → Says width test value s n → answer ≡ At n
-  pub not_digits : answer ≡ NotDigits → holds_only Digits s ≡ false
-  pub not_digits_if : holds_only Digits s ≡ false → answer ≡ NotDigits
-  pub no_such : answer ≡ NoSuch → (holds_only Digits s ≡ true) × (length s ≡ width → test value ≡ true → ⊥)
-  pub no_such_if : holds_only Digits s ≡ true → (length s ≡ width → test value ≡ true → ⊥) → answer ≡ NoSuch
+  pub at : (n : ℕ) → answer ≡ Ok n → Says width test value s n
+  pub at_if : (n : ℕ) → Says width test value s n → answer ≡ Ok n
+  pub not_digits : answer ≡ Err NotDigits → holds_only Digits s ≡ false
+  pub not_digits_if : holds_only Digits s ≡ false → answer ≡ Err NotDigits
+  pub no_such : answer ≡ Err NoSuch → (holds_only Digits s ≡ true) × (length s ≡ width → test value ≡ true → ⊥)
+  pub no_such_if : holds_only Digits s ≡ true → (length s ≡ width → test value ≡ true → ⊥) → answer ≡ Err NoSuch
 
 -- the answer by two tests: the part is digits, and they are of a real day or time
 abbrev answered : Bool → Bool → ℕ → When
-answered p q v = cond p (cond q (At v) NoSuch) NotDigits
+answered p q v = cond p (cond q (Ok v) (Err NoSuch)) (Err NotDigits)
 
 -- two different answers are not equal
 never : {A : Type 0} → ◌≡◌ {A = ℕ} 0 1 → A
 never e = absurd (omega arith)
 
-was_at : (p q : Bool) (v n : ℕ) → answered p q v ≡ At n → (p ≡ true) × (q ≡ true) × (n ≡ v)
+was_at : (p q : Bool) (v n : ℕ) → answered p q v ≡ Ok n → (p ≡ true) × (q ≡ true) × (n ≡ v)
 was_at true true v n e = (refl, refl, cc)
 was_at true false v n e = never (cc)
 was_at false q v n e = never (cc)
 
-was_not_digits : (p q : Bool) (v : ℕ) → answered p q v ≡ NotDigits → p ≡ false
+was_not_digits : (p q : Bool) (v : ℕ) → answered p q v ≡ Err NotDigits → p ≡ false
 was_not_digits true true v e = never (cc)
 was_not_digits true false v e = never (cc)
 was_not_digits false q v e = refl
 
-was_no_such : (p q : Bool) (v : ℕ) → answered p q v ≡ NoSuch → (p ≡ true) × (q ≡ false)
+was_no_such : (p q : Bool) (v : ℕ) → answered p q v ≡ Err NoSuch → (p ≡ true) × (q ≡ false)
 was_no_such true true v e = never (cc)
 was_no_such true false v e = (refl, refl)
 was_no_such false q v e = never (cc)
@@ -79,7 +79,7 @@ module _ (width : ℕ) (test : ℕ → Bool) (value : ℕ) (s : List ℕ) where
               real = ap test is.2 ∙ both_right w t is.1;
             };
         at_if = λ n says.
-            a ∙ rw (says.digits, both (eq-eqb _ _ says.wide) (sym (ap test says.number) ∙ says.real)) (ap At (sym says.number));
+            a ∙ rw (says.digits, both (eq-eqb _ _ says.wide) (sym (ap test says.number) ∙ says.real)) (ap Ok (sym says.number));
         not_digits = λ e. was_not_digits p (w && t) value (sym a ∙ e);
         not_digits_if = λ stray. a ∙ rw stray;
         no_such = λ e.

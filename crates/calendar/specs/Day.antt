@@ -1,8 +1,6 @@
 -- Days, as the number AAAAMMDD and as the files write them.
-use Rattle.std.specs.Prelude.{ℕ, ◌+◌, ◌*◌, ◌/◌, ◌%◌, List, Bool, ◌&&◌, leb}
-use Rattle.calendar.specs.declared.when.When.{When}
-use Rattle.calendar.specs.declared.when.When.TheVariants.{NotDigits, NoSuch, At}
-use Rattle.calendar.specs.When.{written, only_if}
+use Rattle.std.specs.Prelude.{ℕ, ◌+◌, ◌*◌, ◌/◌, ◌%◌, List, Bool, ◌&&◌, leb, Ok, Err}
+use Rattle.calendar.specs.When.{When, written, only_if}
 use Rattle.calendar.specs.Month.{days_in}
 
 -- year, month and day of the number AAAAMMDD
@@ -24,9 +22,8 @@ abbrev pub turned : ℕ → ℕ
 turned n = n % 10000 * 10000 + n / 10000 % 100 * 100 + n / 1000000
 
 abbrev pub turned_round : When → When
-turned_round NotDigits = NotDigits
-turned_round NoSuch = NoSuch
-turned_round (At n) = At (turned n)
+turned_round (Ok n) = Ok (turned n)
+turned_round (Err why) = Err why
 
 -- a part as AAAAMMDD (card files)
 abbrev pub year_first : List ℕ → When

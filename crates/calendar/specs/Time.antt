@@ -1,7 +1,6 @@
 -- Times, as the number HHMMSS and as the files write them.
 use Rattle.std.specs.Prelude.{ℕ, ◌/◌, ◌%◌, List, Bool, ◌&&◌, ltb}
-use Rattle.calendar.specs.declared.when.When.{When}
-use Rattle.calendar.specs.When.{written, only_if}
+use Rattle.calendar.specs.When.{When, written, only_if}
 
 -- "a time is 000000 to 235959 with minutes and seconds below 60"
 unfoldable pub is_time : ℕ → Bool

@@ -5,25 +5,28 @@
 use card_program::verdict::Lines;
 use card_program::{list, verdict, work};
 use file_list::listed;
-use program::argument::Argument;
 use program::mistake::{Mistake, Program};
 use program::{argument, mistake};
 
-fn main(rt: HostRuntime) {
-    let count = argument::count(&rt);
+// Prints what comes of the file on standard input, or of the files that the arguments name.
+fn print_checked(rt: &HostRuntime) -> Result<(), Mistake> {
+    let count = argument::count(rt);
     if count < 2 {
-        mistake::tell(&rt, Mistake::Usage(Program::Card));
-        return;
+        return Err(Mistake::Usage(Program::Card));
     }
     let mut edition = argument::room();
-    let Argument::Bytes(size) = argument::read(&rt, 1, &mut edition) else {
-        mistake::tell(&rt, Mistake::TooLong);
-        return;
-    };
+    let size = argument::read(rt, 1, &mut edition)?;
     if count == 2 {
         let outcome = work::work(&edition[..size], &mut rt.stdin());
-        verdict::print(&rt, Lines::Sales, outcome);
-        return;
+        verdict::print(rt, Lines::Sales, outcome);
+    } else {
+        listed::print(rt, list::list_under(rt, &edition[..size], count));
     }
-    listed::print(&rt, list::list_under(&rt, &edition[..size], count));
+    Ok(())
+}
+
+fn main(rt: HostRuntime) {
+    if let Err(mistake) = print_checked(&rt) {
+        mistake::tell(&rt, mistake);
+    }
 }

@@ -1,5 +1,5 @@
 -- AJ, 193 bytes, fields 1 to 24: the table printed in section 2.6 of document 003, "every field as printed" (docs/READINGS.md).
-use Rattle.std.specs.Prelude.{ℕ, List, [], ◌∷◌, Bool, eqb}
+use Rattle.std.specs.Prelude.{ℕ, List, [], ◌∷◌, ◌++◌, Bool, eqb}
 use Rattle.refusal.specs.declared.Cause.TheVariants.{AmountsDisagree}
 use Rattle.refusal.specs.Rules.{Rule, rule_at}
 use Rattle.totals.specs.declared.amounts.Amounts.{Amounts}
@@ -10,9 +10,9 @@ use Rattle.card_content.specs.declared.field.Field.{Field}
 use Rattle.card_content.specs.Field.{field, number_in}
 use Rattle.card_adjustment.specs.declared.aj.Aj.{Aj}
 
--- the fields behind the kind, by their printed numbers
-abbrev pub aj_table : List Field
-aj_table =
+-- the fields behind the kind, by their printed numbers: from store to launch date
+abbrev pub transaction_table : List Field
+transaction_table =
     field 3 17 Text ∷  -- 02 store
     field 18 29 Digits ∷  -- 03 NSU of the original transaction, optional
     field 30 37 DayOrZeros ∷  -- 04 date of the original transaction, optional
@@ -22,6 +22,11 @@ aj_table =
     field 60 65 Time ∷  -- 08 time, optional: zeros are a time
     field 66 66 (OneOf LaunchType) ∷  -- 09 launch type: 0, 1 or 2
     field 67 74 Day ∷  -- 10 launch date
+    []
+
+-- from capture to net
+abbrev pub adjustment_table : List Field
+adjustment_table =
     field 75 75 (OneOf AdjustmentCapture) ∷  -- 11 capture: 1 to 7 and 9
     field 76 76 (OneOf AdjustmentType) ∷  -- 12 type of adjustment: 1 credit, 2 debit
     field 77 79 Digits ∷  -- 13 reason code
@@ -29,6 +34,11 @@ aj_table =
     field 110 120 Digits ∷  -- 15 gross
     field 121 131 Digits ∷  -- 16 discount
     field 132 142 Digits ∷  -- 17 net
+    []
+
+-- from bank to NSEQ
+abbrev pub bank_table : List Field
+bank_table =
     field 143 145 Digits ∷  -- 18 bank
     field 146 151 Digits ∷  -- 19 branch
     field 152 162 Text ∷  -- 20 account
@@ -37,6 +47,9 @@ aj_table =
     field 185 187 Text ∷  -- 23 product code, optional
     field 188 193 Digits ∷  -- 24 NSEQ
     []
+
+abbrev pub aj_table : List Field
+aj_table = transaction_table ++ (adjustment_table ++ bank_table)
 
 abbrev pub aj_amounts : List ℕ → Amounts
 aj_amounts r =

@@ -1,15 +1,15 @@
 // AJ, an adjustment: a credit or a debit.
-ghost use Rattle.std.specs.Prelude.{◌≡◌, take, drop};
+ghost use Rattle.std.specs.Prelude.{◌≡◌};
 ghost use Rattle.refusal.specs.Rules.{first_broken};
 ghost use Rattle.card_content.specs.Field.{table_rules, record_rules};
-ghost use Rattle.card_adjustment.specs.Aj.{aj_table, aj_amounts, aj_of, is_credit, joined_rules};
+ghost use Rattle.card_adjustment.specs.Aj.{transaction_table, adjustment_table, bank_table, aj_table, aj_amounts, aj_of, is_credit, joined_rules};
 
 use card_content::content::{ClosedSet, Content};
 use card_content::field::Field;
 use refusal::{Cause, Fault};
 use totals::amounts::Amounts;
 
-// What later rules and the totals need of it; not the card.
+// What later rules and the totals need of it; not the card. The type stays the number that was read (`aj_of`), as the launch type of a sale does.
 #[derive(Clone, Copy)]
 pub struct Aj {
     pub adjustment_type: u64,
@@ -67,59 +67,58 @@ impl Aj {
     pub const NSEQ: Field = Field(188, 193, Content::Digits);
 
     // The first fault of the fields from store to launch date.
-    fn transaction_fields(edition: u64, bytes: &[u8]) -> Fault
-        ensures { result ≡ first_broken (table_rules edition bytes.now (take 9 aj_table)) }
+    #[tactic(auto, using(card_content::proofs::Rows::each_field))]
+    fn transaction_fields(edition: u64, bytes: &[u8]) -> Result<(), Fault>
+        ensures { result ≡ first_broken (table_rules edition bytes.now transaction_table) }
     {
-        Aj::STORE
-            .fault(edition, bytes)
-            .earlier(Aj::ORIGINAL_NSU.fault(edition, bytes))
-            .earlier(Aj::ORIGINAL_DATE.fault(edition, bytes))
-            .earlier(Aj::INSTALMENT.fault(edition, bytes))
-            .earlier(Aj::NSU.fault(edition, bytes))
-            .earlier(Aj::DATE.fault(edition, bytes))
-            .earlier(Aj::TIME.fault(edition, bytes))
-            .earlier(Aj::LAUNCH_TYPE.fault(edition, bytes))
-            .earlier(Aj::LAUNCH_DATE.fault(edition, bytes))
+        Aj::STORE.fault(edition, bytes)?;
+        Aj::ORIGINAL_NSU.fault(edition, bytes)?;
+        Aj::ORIGINAL_DATE.fault(edition, bytes)?;
+        Aj::INSTALMENT.fault(edition, bytes)?;
+        Aj::NSU.fault(edition, bytes)?;
+        Aj::DATE.fault(edition, bytes)?;
+        Aj::TIME.fault(edition, bytes)?;
+        Aj::LAUNCH_TYPE.fault(edition, bytes)?;
+        Aj::LAUNCH_DATE.fault(edition, bytes)
     }
 
     // The first fault of the fields from capture to net.
-    fn adjustment_fields(edition: u64, bytes: &[u8]) -> Fault
-        ensures { result ≡ first_broken (table_rules edition bytes.now (take 7 (drop 9 aj_table))) }
+    #[tactic(auto, using(card_content::proofs::Rows::each_field))]
+    fn adjustment_fields(edition: u64, bytes: &[u8]) -> Result<(), Fault>
+        ensures { result ≡ first_broken (table_rules edition bytes.now adjustment_table) }
     {
-        Aj::CAPTURE
-            .fault(edition, bytes)
-            .earlier(Aj::ADJUSTMENT_TYPE.fault(edition, bytes))
-            .earlier(Aj::REASON.fault(edition, bytes))
-            .earlier(Aj::DESCRIPTION.fault(edition, bytes))
-            .earlier(Aj::GROSS.fault(edition, bytes))
-            .earlier(Aj::DISCOUNT.fault(edition, bytes))
-            .earlier(Aj::NET.fault(edition, bytes))
+        Aj::CAPTURE.fault(edition, bytes)?;
+        Aj::ADJUSTMENT_TYPE.fault(edition, bytes)?;
+        Aj::REASON.fault(edition, bytes)?;
+        Aj::DESCRIPTION.fault(edition, bytes)?;
+        Aj::GROSS.fault(edition, bytes)?;
+        Aj::DISCOUNT.fault(edition, bytes)?;
+        Aj::NET.fault(edition, bytes)
     }
 
     // The first fault of the fields from bank to NSEQ.
-    fn bank_fields(edition: u64, bytes: &[u8]) -> Fault
-        ensures { result ≡ first_broken (table_rules edition bytes.now (drop 16 aj_table)) }
+    #[tactic(auto, using(card_content::proofs::Rows::each_field))]
+    fn bank_fields(edition: u64, bytes: &[u8]) -> Result<(), Fault>
+        ensures { result ≡ first_broken (table_rules edition bytes.now bank_table) }
     {
-        Aj::BANK
-            .fault(edition, bytes)
-            .earlier(Aj::BRANCH.fault(edition, bytes))
-            .earlier(Aj::ACCOUNT.fault(edition, bytes))
-            .earlier(Aj::CARD.fault(edition, bytes))
-            .earlier(Aj::BRAND.fault(edition, bytes))
-            .earlier(Aj::PRODUCT_CODE.fault(edition, bytes))
-            .earlier(Aj::NSEQ.fault(edition, bytes))
+        Aj::BANK.fault(edition, bytes)?;
+        Aj::BRANCH.fault(edition, bytes)?;
+        Aj::ACCOUNT.fault(edition, bytes)?;
+        Aj::CARD.fault(edition, bytes)?;
+        Aj::BRAND.fault(edition, bytes)?;
+        Aj::PRODUCT_CODE.fault(edition, bytes)?;
+        Aj::NSEQ.fault(edition, bytes)
     }
 
     // The first fault of a record of this kind among its width and its fields.
-    pub fn fault(edition: u64, bytes: &[u8]) -> Fault
+    #[tactic(auto, using(crate::proofs::Groups::in_groups))]
+    pub fn fault(edition: u64, bytes: &[u8]) -> Result<(), Fault>
         ensures { result ≡ first_broken (record_rules edition bytes.now 193 aj_table) }
     {
-        if bytes.len() != Aj::WIDTH {
-            return Fault::At(Cause::WrongWidth, 0);
-        }
-        Aj::transaction_fields(edition, bytes)
-            .earlier(Aj::adjustment_fields(edition, bytes))
-            .earlier(Aj::bank_fields(edition, bytes))
+        refusal::rule(Cause::WrongWidth, 0, bytes.len() == Aj::WIDTH)?;
+        Aj::transaction_fields(edition, bytes)?;
+        Aj::adjustment_fields(edition, bytes)?;
+        Aj::bank_fields(edition, bytes)
     }
 
     // Its amounts.
@@ -152,10 +151,10 @@ impl Aj {
     }
 
     // The fault of the joined rule that looks at this record alone.
-    pub fn joined_fault(self) -> Fault
+    #[tactic(auto, using(refusal::proofs::Rows::one_rule), unfolding(crate::specs::Aj::joined_rules))]
+    pub fn joined_fault(self) -> Result<(), Fault>
         ensures { result ≡ first_broken (joined_rules self) }
     {
-        let amounts = self.amounts;
-        Aj::NET.rule(Cause::AmountsDisagree, amounts.agree())
+        Aj::NET.rule(Cause::AmountsDisagree, self.amounts.agree())
     }
 }

@@ -1,3 +1,2 @@
 pub mod Behind
 pub mod Call
-pub mod Streamed

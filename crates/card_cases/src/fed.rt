@@ -1,10 +1,11 @@
 // Card files given record by record: the answers after each call, a line for each case.
-ghost use Rattle.std.specs.Prelude.{◌≡◌, ◌+◌, ◌≤◌, min, length};
+ghost use Rattle.std.specs.Prelude.{◌≡◌, ◌≤◌};
 ghost use Rattle.card_cases.specs.Call.{called_of};
 
 use card_run::running::Running;
-use cases::cursor::{EDITION_BYTES, LENGTH_BYTES, Number};
-use cases::{answer, cursor, file, print};
+use cases::cursor::{LENGTH_BYTES, Number};
+use cases::layout::EDITION_AND_PART;
+use cases::{answer, cursor, print};
 
 // The length that stands for a close.
 const CLOSE: u64 = 4294967295;
@@ -50,31 +51,12 @@ fn print_calls(edition: u64, calls: &[u8]) {
     cursor::print_end(calls, at);
 }
 
-// Prints the line of the case at a place, and answers the place behind it.
-fn print_case(cases: &[u8], at: usize) -> usize
-    ensures { min (at + 1) (length cases.now) ≤ result }
-{
-    let edition = cursor::number_at(cases, at, EDITION_BYTES);
-    let length = cursor::number_at(cases, edition.behind, LENGTH_BYTES);
-    print_calls(edition.value, length.part(cases));
-    print::byte(b'\n');
-    length.behind_part()
-}
-
-// Prints the lines of all cases.
-fn print_cases(cases: &[u8]) {
-    let mut at = 0;
-    while at < cases.len() {
-        at = print_case(cases, at);
-    }
-    cursor::print_end(cases, at);
-}
-
-// Prints the lines of a file of cases.
+// Prints the line of each case of a file.
 fn print_file(rt: &HostRuntime, path: &[u8]) {
-    let mut buffer = file::room();
-    let size = file::load(rt, path, &mut buffer);
-    print_cases(&buffer[..size]);
+    EDITION_AND_PART.print_file(rt, path, |[edition, _], calls| {
+        print_calls(edition, calls);
+        print::byte(b'\n');
+    });
 }
 
 pub fn print_outside(rt: &HostRuntime) {

@@ -1,14 +1,14 @@
 // The field question: what is handed back of each case, a line each.
-ghost use Rattle.std.specs.Prelude.{◌+◌, ◌≤◌, min, length};
-
-use cases::cursor::LENGTH_BYTES;
 use cases::hash::hash;
-use cases::{answer, cursor, file, print};
+use cases::layout::Layout;
+use cases::{answer, print};
 use refusal::Refusal;
-use sale_field::FieldAnswer;
 
-// How many bytes a field's number takes.
-const FIELD_BYTES: u64 = 4;
+// A field's number takes four bytes, and a record stands behind its length.
+const FIELDS: Layout = Layout {
+    widths: [4, 0],
+    size: None,
+};
 
 // `P length hash`
 fn print_part(part: &[u8]) {
@@ -20,7 +20,7 @@ fn print_part(part: &[u8]) {
 // The refusal, and whether the part is empty then.
 fn print_refused(refusal: Refusal, part: &[u8]) {
     answer::print_refusal(refusal);
-    if part.len() > 0 {
+    if !part.is_empty() {
         print::text(b" with a part");
     }
 }
@@ -29,36 +29,15 @@ fn print_refused(refusal: Refusal, part: &[u8]) {
 fn print_field(record: &[u8], number: u64) {
     let part = sale_field::field(record, number);
     match sale_field::field_answer(record, number) {
-        FieldAnswer::Offered => print_part(part),
-        FieldAnswer::Refused(refusal) => print_refused(refusal, part),
+        Ok(()) => print_part(part),
+        Err(refusal) => print_refused(refusal, part),
     }
     print::byte(b'\n');
 }
 
-// Prints the line of the case at a place, and answers the place behind it.
-fn print_case(cases: &[u8], at: usize) -> usize
-    ensures { min (at + 1) (length cases.now) ≤ result }
-{
-    let field = cursor::number_at(cases, at, FIELD_BYTES);
-    let length = cursor::number_at(cases, field.behind, LENGTH_BYTES);
-    print_field(length.part(cases), field.value);
-    length.behind_part()
-}
-
-// Prints the lines of all cases.
-fn print_cases(cases: &[u8]) {
-    let mut at = 0;
-    while at < cases.len() {
-        at = print_case(cases, at);
-    }
-    cursor::print_end(cases, at);
-}
-
-// Prints the lines of a file of cases.
+// Prints the line of each case of a file.
 fn print_file(rt: &HostRuntime, path: &[u8]) {
-    let mut buffer = file::room();
-    let size = file::load(rt, path, &mut buffer);
-    print_cases(&buffer[..size]);
+    FIELDS.print_file(rt, path, |[number, _], record| print_field(record, number));
 }
 
 pub fn print_outside(rt: &HostRuntime) {

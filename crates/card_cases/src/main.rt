@@ -2,12 +2,10 @@
 // of our own cut in two at every place; then of cases given record by record, of what no file of cases can say, and of single fields.
 #![tactic(auto)]
 
-ghost use Rattle.std.specs.Prelude.{◌+◌, ◌≤◌, min, length};
-
 use card_run::answer::CardAnswer;
-use cases::cursor::{EDITION_BYTES, LENGTH_BYTES};
-use cases::source::{Source, Way};
-use cases::{answer, cursor, file, print, row};
+use cases::layout::EDITION_AND_PART;
+use cases::source::{CUT_AT_EVERY_PLACE, IN_CHUNKS, Source, WHOLE};
+use cases::{answer, print, row};
 
 mod fed;
 mod fields;
@@ -33,48 +31,31 @@ fn print_cuts(edition: u64, file: &[u8]) {
     answer::next_cuts(streamed::cuts_alike(edition, file, &row::card_row(whole)));
 }
 
-// Prints the line of a file.
-fn print_file(edition: u64, file: &[u8], way: Way) {
-    match way {
-        Way::Whole => print_line(card_file::check(edition, file)),
-        Way::InChunks => print_line(streamed::in_chunks(edition, file)),
-        Way::CutAtEveryPlace => print_cuts(edition, file),
-    }
+// Prints the lines of files read whole.
+fn print_whole(rt: &HostRuntime, source: Source) {
+    source.print_cases(rt, WHOLE, EDITION_AND_PART, |[edition, _], file| {
+        print_line(card_file::check(edition, file))
+    });
 }
 
-// Prints the line of the case at a place, and answers the place behind it.
-fn print_case(cases: &[u8], at: usize, way: Way) -> usize
-    ensures { min (at + 1) (length cases.now) ≤ result }
-{
-    let edition = cursor::number_at(cases, at, EDITION_BYTES);
-    let length = cursor::number_at(cases, edition.behind, LENGTH_BYTES);
-    print_file(edition.value, length.part(cases), way);
-    length.behind_part()
-}
-
-// Prints the lines of all cases.
-fn print_cases(cases: &[u8], way: Way) {
-    let mut at = 0;
-    while at < cases.len() {
-        at = print_case(cases, at, way);
-    }
-    cursor::print_end(cases, at);
-}
-
-// Prints the lines of a file of cases.
-fn print_all(rt: &HostRuntime, source: Source, way: Way) {
-    let mut buffer = file::room();
-    source.print_title(way);
-    let size = source.load(rt, &mut buffer);
-    print_cases(&buffer[..size], way);
+// Prints the lines of files in chunks.
+fn print_in_chunks(rt: &HostRuntime, source: Source) {
+    source.print_cases(rt, IN_CHUNKS, EDITION_AND_PART, |[edition, _], file| {
+        print_line(streamed::in_chunks(edition, file))
+    });
 }
 
 fn main(rt: HostRuntime) {
-    print_all(&rt, Source::Outside, Way::Whole);
-    print_all(&rt, Source::Own, Way::Whole);
-    print_all(&rt, Source::Outside, Way::InChunks);
-    print_all(&rt, Source::Own, Way::InChunks);
-    print_all(&rt, Source::Own, Way::CutAtEveryPlace);
+    print_whole(&rt, Source::Outside);
+    print_whole(&rt, Source::Own);
+    print_in_chunks(&rt, Source::Outside);
+    print_in_chunks(&rt, Source::Own);
+    Source::Own.print_cases(
+        &rt,
+        CUT_AT_EVERY_PLACE,
+        EDITION_AND_PART,
+        |[edition, _], file| print_cuts(edition, file),
+    );
     fed::print_outside(&rt);
     fed::print_own(&rt);
     limits::print_all(&rt);

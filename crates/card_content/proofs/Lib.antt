@@ -1,4 +1,3 @@
-pub mod Told
 pub mod Rows
 pub mod FieldParts
 pub mod Ranges

@@ -8,7 +8,8 @@ use native.Mathlib.Nat.{one-le-pow, pow-le-pow_right}
 use lib.ListN.{length, take, length-take, length-drop}
 use lib.Dec.{lit<, leb}
 use Rattle.text.specs.declared.alphabet.Alphabet.TheVariants.{Digits as digits}
-use Rattle.text.specs.declared.number.Number.TheVariants.{Of, NotDigits, TooLong}
+use Rattle.std.specs.Prelude.{Ok, Err}
+use Rattle.text.specs.declared.number.NoNumber.TheVariants.{NotDigits, TooLong}
 use Rattle.text.specs.Alphabet.{holds_only}
 use Rattle.text.specs.Number.{value_of, number_of, plain_number}
 use Rattle.text.proofs.Numbers.{value_below}
@@ -19,7 +20,7 @@ use Rattle.card_content.specs.Field.{part_of, number_in}
 written_below : (n : ℕ) (s : List ℕ) → length s ≤ n → plain_number (number_of s) < 10 ^ n
 written_below n s h = by (holds_only digits s) (leb (length s) 18) refl
   where
-    by : (p q : Bool) → holds_only digits s ≡ p → plain_number (cond p (cond q (Of (value_of s)) TooLong) NotDigits) < 10 ^ n
+    by : (p q : Bool) → holds_only digits s ≡ p → plain_number (cond p (cond q (Ok (value_of s)) (Err TooLong)) (Err NotDigits)) < 10 ^ n
     by true true e = omega (arith, value_below s e, pow-le-pow_right {n = 10} (lit< tt) {i = length s} {j = n} h)
     by true false e = one-le-pow n 10 (lit< tt)
     by false q e = one-le-pow n 10 (lit< tt)

@@ -10,8 +10,12 @@ ghost use Rattle.card_content.specs.Content.{
   content_rules,
 };
 
+use calendar::day::year_first;
+use calendar::time::time_of;
+use calendar::when;
 use refusal::{Cause, Fault};
-use text::alphabet::Alphabet;
+use text::alphabet::{Alphabet, holds_only};
+use text::literal;
 
 // The contents that the tables name.
 #[derive(Clone, Copy)]
@@ -47,87 +51,81 @@ pub enum ClosedSet {
 fn is_currency(part: &[u8]) -> bool
     ensures { result ≡ is_currency part.now }
 {
-    if text::literal::equals(part, b"RE") {
-        return true;
-    }
-    if text::literal::equals(part, b"DO") {
-        return true;
-    }
-    if text::literal::equals(part, b"PE") {
-        return true;
-    }
-    text::literal::equals(part, b"  ")
+    literal::equals(part, b"RE")
+        || literal::equals(part, b"DO")
+        || literal::equals(part, b"PE")
+        || literal::equals(part, b"  ")
 }
 
 // Whether a part is one of the values that an edition's row gives: none under another edition.
 fn is_in_row(row: u64, values: &[u8], edition: u64, part: &[u8]) -> bool
     ensures { result ≡ in_row row values.now edition part.now }
 {
-    edition == row && text::literal::is_one_of(part, values)
+    edition == row && literal::is_one_of(part, values)
 }
 
 // Whether a part is a value of a closed set. Only captures go by the edition.
+#[tactic(auto, unfolding(crate::specs::Content::in_set))]
 pub fn is_in_set(set: ClosedSet, edition: u64, part: &[u8]) -> bool
     ensures { result ≡ in_set set edition part.now }
 {
     match set {
-        ClosedSet::Version => text::literal::equals(part, b"001.7d"),
-        ClosedSet::Processing => text::literal::is_one_of(part, b"NR"),
+        ClosedSet::Version => literal::equals(part, b"001.7d"),
+        ClosedSet::Processing => literal::is_one_of(part, b"NR"),
         ClosedSet::Currency => is_currency(part),
-        ClosedSet::LaunchType => text::literal::is_one_of(part, b"012"),
-        ClosedSet::Product => text::literal::is_one_of(part, b"CDV"),
+        ClosedSet::LaunchType => literal::is_one_of(part, b"012"),
+        ClosedSet::Product => literal::is_one_of(part, b"CDV"),
         ClosedSet::Capture => is_in_row(2, b"123456789", edition, part),
         ClosedSet::AdjustmentCapture => is_in_row(2, b"12345679", edition, part),
-        ClosedSet::AdjustmentType => text::literal::is_one_of(part, b"12"),
+        ClosedSet::AdjustmentType => literal::is_one_of(part, b"12"),
     }
 }
 
 // The fault of a part that should hold a day or zeros.
-fn day_or_zeros_fault(column: u64, part: &[u8]) -> Fault
+#[tactic(auto, unfolding(crate::specs::Content::day_or_zeros_rules, refusal::specs::Rules::first_broken))]
+fn day_or_zeros_fault(column: u64, part: &[u8]) -> Result<(), Fault>
     ensures { result ≡ first_broken (day_or_zeros_rules column part.now) }
 {
-    if text::literal::equals(part, b"00000000") {
-        return Fault::Nothing;
+    if literal::equals(part, b"00000000") {
+        return Ok(());
     }
-    calendar::day::year_first(part).fault(column)
+    when::fault_of(year_first(part), column)
 }
 
 // The fault of a part that should hold a card or blanks.
-fn card_or_blanks_fault(column: u64, part: &[u8]) -> Fault
+#[tactic(auto, using(refusal::proofs::Rows::one_rule), unfolding(crate::specs::Content::card_or_blanks_rules))]
+fn card_or_blanks_fault(column: u64, part: &[u8]) -> Result<(), Fault>
     ensures { result ≡ first_broken (card_or_blanks_rules column part.now) }
 {
-    if text::literal::equals(part, b"                   ") {
-        return Fault::Nothing;
-    }
-    refusal::rule(Cause::ByteNotAllowed, column, pan::well_formed(part))
+    let allowed = literal::equals(part, b"                   ") || pan::well_formed(part);
+    refusal::rule(Cause::ByteNotAllowed, column, allowed)
 }
 
 // The fault of a part that should hold this content.
-pub fn fault_of(content: Content, edition: u64, column: u64, part: &[u8]) -> Fault
+#[tactic(auto, using(refusal::proofs::Rows::one_rule), unfolding(crate::specs::Content::content_rules))]
+pub fn fault_of(content: Content, edition: u64, column: u64, part: &[u8]) -> Result<(), Fault>
     ensures { result ≡ first_broken (content_rules content edition column part.now) }
 {
     match content {
         Content::Digits => refusal::rule(
             Cause::ByteNotAllowed,
             column,
-            text::alphabet::holds_only(Alphabet::Digits, part),
+            holds_only(Alphabet::Digits, part),
         ),
         Content::Text => refusal::rule(
             Cause::ByteNotAllowed,
             column,
-            text::alphabet::holds_only(Alphabet::CardText, part),
+            holds_only(Alphabet::CardText, part),
         ),
         Content::Card => refusal::rule(Cause::ByteNotAllowed, column, pan::well_formed(part)),
         Content::CardOrBlanks => card_or_blanks_fault(column, part),
-        Content::Day => calendar::day::year_first(part).fault(column),
+        Content::Day => when::fault_of(year_first(part), column),
         Content::DayOrZeros => day_or_zeros_fault(column, part),
-        Content::Time => calendar::time::time_of(part).fault(column),
-        Content::OneOf(set) => {
-            refusal::rule(
-                Cause::ValueNotAllowed,
-                column,
-                is_in_set(set, edition, part),
-            )
-        }
+        Content::Time => when::fault_of(time_of(part), column),
+        Content::OneOf(set) => refusal::rule(
+            Cause::ValueNotAllowed,
+            column,
+            is_in_set(set, edition, part),
+        ),
     }
 }

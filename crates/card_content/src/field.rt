@@ -5,8 +5,9 @@ ghost use Rattle.refusal.specs.Rules.{first_broken};
 ghost use Rattle.text.specs.Part.{AtPositions};
 ghost use Rattle.card_content.specs.Field.{field_rules, number_in};
 
-use crate::content::Content;
+use crate::content::{self, Content};
 use refusal::{Cause, Fault};
+use text::number;
 
 // The first and the last position, from 1, as the tables print them, and the content.
 #[derive(Clone, Copy)]
@@ -21,26 +22,23 @@ impl Field {
     }
 
     // The fault of this field in a record.
-    pub fn fault(self, edition: u64, bytes: &[u8]) -> Fault
+    pub fn fault(self, edition: u64, bytes: &[u8]) -> Result<(), Fault>
         ensures { result ≡ first_broken (field_rules edition bytes.now self) }
     {
-        let content = self.2;
-        let column = self.0 as u64;
-        crate::content::fault_of(content, edition, column, self.part(bytes))
+        content::fault_of(self.2, edition, self.0 as u64, self.part(bytes))
     }
 
     // The number that this field's digits write in a record; 0 where they write none.
     pub fn number(self, bytes: &[u8]) -> u64
         ensures { result ≡ number_in self bytes.now }
     {
-        text::number::number_of(self.part(bytes)).or_zero()
+        number::or_zero(number::number_of(self.part(bytes)))
     }
 
     // The fault of a rule that is broken at this field unless it holds.
-    pub fn rule(self, cause: Cause, holds: bool) -> Fault
+    pub fn rule(self, cause: Cause, holds: bool) -> Result<(), Fault>
         ensures { result ≡ rule_of cause self.0 holds }
     {
-        let column = self.0 as u64;
-        refusal::rule(cause, column, holds)
+        refusal::rule(cause, self.0 as u64, holds)
     }
 }

@@ -6,6 +6,7 @@ use mathlib.Core.List.{List, [], ◌++◌}
 use native.Mathlib.Omega.{arith}
 use lib.ListN.{length, take, drop, length-take, length-drop, length-append}
 use lib.Seq.{take-append-le, drop-append-le, take_at, drop_at}
+use Rattle.std.specs.Prelude.{Result, Ok, Err}
 use Rattle.text.proofs.Parts.{drop_take}
 use Rattle.lines.specs.Lines.{cut, rejoined, finished_in}
 use Rattle.lines.proofs.Cuts.{cut_is_cut}
@@ -14,8 +15,6 @@ use Rattle.card_mask.specs.Masked.{masked_file, MasksLines}
 use Rattle.card_mask.proofs.InChunks.{masked_length, waiting_part}
 use Rattle.card_mask.proofs.Again.{all_finished, own_masked}
 use Rattle.card_stream.specs.declared.Stream.{Stream}
-use Rattle.card_copy.specs.declared.write.Finished.{Finished}
-use Rattle.card_copy.specs.declared.write.Finished.TheVariants.{Lines, Failed}
 use Rattle.card_copy.specs.Copying.{InHand, MayBeWritten, counts, finishes}
 
 pub finished_in_front : (s : List ℕ) (end n : ℕ) → n ≡ finished_in (take end s) → n ≤ end
@@ -34,12 +33,12 @@ unfinished_rest s =
     ap (drop (finished_in s)) (sym (both_parts s)) ∙ drop_at front (cut s).rest (finished_in s) refl
 
 -- bytes that are left alone
-pub left_alone : (s : List ℕ) (end : ℕ) (r : Finished) → counts (take (end - 0) (drop 0 s)) r → finishes s end s r
-left_alone s end (Lines n) e =
+pub left_alone : (s : List ℕ) (end : ℕ) (r : Result ℕ ℕ) → counts (take (end - 0) (drop 0 s)) r → finishes s end s r
+left_alone s end (Ok n) e =
     let z : end - 0 ≡ end = omega arith in
     let f : n ≡ finished_in (take end s) = rw z at e in
     (f, sym (drop_take n end s (finished_in_front s end n f)) ∙ ap (λ (k : ℕ). drop k (take end s)) f ∙ unfinished_rest (take end s))
-left_alone s end (Failed error) e = tt
+left_alone s end (Err error) e = tt
 
 -- masked where they stand, it is as it was
 pub unfinished_behind : (bytes masked post : List ℕ) (end lines : ℕ) → MasksLines bytes lines masked → length bytes ≡ end →

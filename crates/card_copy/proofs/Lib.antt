@@ -1,4 +1,3 @@
 pub mod Finished
-pub mod Hand
-pub mod Moves
+pub mod InHand
 pub mod Waiting

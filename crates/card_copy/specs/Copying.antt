@@ -1,17 +1,12 @@
 -- What is in hand, what may be written of it, and what is promised of a buffer whose finished lines are dealt with: the unfinished one waits at its start.
-use Rattle.std.specs.Prelude.{ℕ, ◌-◌, ◌<◌, ◌≤◌, ◌≡◌, cond, length, take, drop, ltb}
+use Rattle.std.specs.Prelude.{ℕ, ◌-◌, ◌<◌, ◌≤◌, ◌≡◌, cond, length, take, drop, ltb, Result, Ok, Err}
 use mathlib.Core.List.{List, ◌++◌, foldl}
 use Rattle.lines.specs.Lines.{cut, finished_in}
 use Rattle.chunks.specs.Waiting.{unless_full, waiting_in}
 use Rattle.card_mask.specs.Masked.{masked_file}
 use Rattle.card_stream.specs.declared.Stream.{Stream}
 use Rattle.card_stream.specs.Stream.{open_of, taken_of}
-use Rattle.card_copy.specs.declared.write.Finished.{Finished}
-use Rattle.card_copy.specs.declared.write.Finished.TheVariants.{Lines, Failed as NotWritten}
-use Rattle.card_copy.specs.declared.copy.Written.{Written}
-use Rattle.card_copy.specs.declared.copy.Written.TheVariants.{Tail, Failed}
-use Rattle.card_copy.specs.declared.copy.Next.{Next}
-use Rattle.card_copy.specs.declared.copy.Next.TheVariants.{Bytes, Over, Unwritten}
+use Rattle.card_copy.specs.declared.hand.Hand.{Hand}
 
 -- how many bytes wait of an unfinished line: none where it fills the buffer
 abbrev pub waiting_size : ℕ → ℕ → ℕ
@@ -39,15 +34,20 @@ pub record Filled (buffer : List ℕ) (end : ℕ) : Type 0 where
   pub size : length buffer ≡ 65536
   pub within : end ≤ length buffer
 
+-- the buffer has these bytes in hand
+pub record Held (hand : Hand) (buffer : List ℕ) : Type 0 where
+  pub filled : Filled buffer hand.end
+  pub in_hand : InHand hand.before (take hand.end buffer)
+
 -- the finished lines of some bytes are counted, unless a write failed
-abbrev pub counts : List ℕ → Finished → Type 0
-counts bytes (Lines n) = n ≡ finished_in bytes
-counts bytes (NotWritten error) = Unit {0}
+abbrev pub counts : List ℕ → Result ℕ ℕ → Type 0
+counts bytes (Ok n) = n ≡ finished_in bytes
+counts bytes (Err error) = Unit {0}
 
 -- behind the first bytes of a buffer: their finished lines are counted, and the unfinished one is as it was
-abbrev pub finishes : List ℕ → ℕ → List ℕ → Finished → Type 0
-finishes before end after (Lines n) = (n ≡ finished_in (take end before)) × (take (end - n) (drop n after) ≡ (cut (take end before)).rest)
-finishes before end after (NotWritten error) = Unit {0}
+abbrev pub finishes : List ℕ → ℕ → List ℕ → Result ℕ ℕ → Type 0
+finishes before end after (Ok n) = (n ≡ finished_in (take end before)) × (take (end - n) (drop n after) ≡ (cut (take end before)).rest)
+finishes before end after (Err error) = Unit {0}
 
 -- the bytes from one place up to another were moved to the start
 pub record MovedToFront (before : List ℕ) (from end : ℕ) (after : List ℕ) : Type 0 where
@@ -55,13 +55,6 @@ pub record MovedToFront (before : List ℕ) (from end : ℕ) (after : List ℕ) 
   pub same : length after ≡ length before
 
 -- behind the first bytes of a buffer: their unfinished line waits at its start, and leaves room for the next read
-abbrev pub leaves : List ℕ → ℕ → List ℕ → Written → Type 0
-leaves before end after (Tail n) = (n < length after) × (take n after ≡ unless_full (length before) (cut (take end before)).rest)
-leaves before end after (Failed error) = Unit {0}
-
--- the unfinished line of the first bytes waits at the start, and it and what was read behind it lie within the buffer
-abbrev pub NextWithin : List ℕ → ℕ → List ℕ → Next → Type 0
-NextWithin before end after (Bytes tail behind) =
-    (tail ≤ behind) × (behind ≤ length before) × (take tail after ≡ unless_full 65536 (cut (take end before)).rest)
-NextWithin before end after (Over got) = Unit {0}
-NextWithin before end after (Unwritten error) = Unit {0}
+abbrev pub leaves : List ℕ → ℕ → List ℕ → Result ℕ ℕ → Type 0
+leaves before end after (Ok n) = (n < length after) × (take n after ≡ unless_full (length before) (cut (take end before)).rest)
+leaves before end after (Err error) = Unit {0}

@@ -7,11 +7,7 @@ pub(crate) fn move_to_front(buffer: &mut [u8], from: usize, end: usize)
     requires { (from ≤ end) × (end ≤ length buffer.old) }
     ensures { MovedToFront buffer.old from end buffer.new }
 {
-    let mut i = 0;
-    while i < end - from {
-        buffer[i] = buffer[from + i];
-        i += 1;
-    }
+    buffer.copy_within(from..end, 0);
 }
 
 // An unfinished line that fills the buffer belongs to no accepted file, so it is let go: nothing of its file is written any more,

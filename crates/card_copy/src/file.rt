@@ -9,10 +9,8 @@ use crate::output::Output;
 use card_program::outcome;
 use card_program::outcome::Outcome;
 use card_stream::Stream;
-use files::reading::Got;
 use files::{opening, reading};
 use out_file::draft::Draft;
-use out_file::saved::Saved;
 use out_file::step::Step;
 use out_file::{draft, place};
 use program::mistake::{Failed, Mistake};
@@ -23,10 +21,8 @@ fn keep_copy(rt: &HostRuntime, outcome: Outcome, draft: Draft, out: &[u8]) -> Ou
     requires { is_accepted outcome ≡ true }
     ensures { (edition : ℕ) → Checked edition outcome → Checked edition result }
 {
-    match draft.keep(rt, out).saved() {
-        Saved::Kept => outcome,
-        Saved::Told(mistake) => Outcome::Mistake(mistake),
-    }
+    draft.keep(rt, out).saved()?;
+    outcome
 }
 
 // Removes the copy of a file that is not accepted.
@@ -61,9 +57,8 @@ fn copy_into<R: Read>(
     ensures { Checked edition result }
 {
     let draft = draft::begin(rt, out);
-    let step = draft.step;
-    let Step::Write = step else {
-        return Outcome::Mistake(Mistake::System(Failed::Write, draft.error));
+    let Step::Write = draft.step else {
+        return Err(Mistake::System(Failed::Write, draft.error));
     };
     let outcome = copy::copy_all(output, edition, reader, &draft, buffer, first);
     finish(rt, outcome, draft, out)
@@ -82,7 +77,7 @@ fn copy_from<R: Read>(
     ensures { Checked edition result }
 {
     let got = reading::read_some(reader, buffer);
-    let Got::Bytes(first) = got else {
+    let Ok(Some(first)) = got else {
         return outcome::outcome_at(got, Stream::open(edition));
     };
     copy_into(rt, output, edition, reader, out, buffer, first)
@@ -92,13 +87,9 @@ fn copy_from<R: Read>(
 fn copy_file(rt: &HostRuntime, output: Output, edition: u64, file: &[u8], out: &[u8]) -> Outcome
     ensures { Checked edition result }
 {
-    match opening::open(rt, file) {
-        Err(error) => Outcome::Mistake(Mistake::System(Failed::Open, error)),
-        Ok(mut opened) => {
-            let mut buffer = io::large_buffer();
-            copy_from(rt, output, edition, &mut opened, out, &mut buffer)
-        }
-    }
+    let mut opened = opening::open(rt, file).map_err(|error| Mistake::System(Failed::Open, error))?;
+    let mut buffer = io::large_buffer();
+    copy_from(rt, output, edition, &mut opened, out, &mut buffer)
 }
 
 // Writes what is made of an accepted file. Of any other there is no copy, and what was at `out` is still there.
@@ -114,5 +105,5 @@ pub(crate) fn copy(
     if place::is_free(rt, out) {
         return copy_file(rt, output, edition, file, out);
     }
-    Outcome::Mistake(Mistake::OutNoFile)
+    Err(Mistake::OutNoFile)
 }

@@ -5,6 +5,7 @@
 mod buffer;
 mod copy;
 mod file;
+mod hand;
 pub mod output;
 pub mod work;
 mod write;

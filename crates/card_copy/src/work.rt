@@ -5,15 +5,12 @@ ghost use Rattle.card_program.specs.Checked.{Worked};
 use crate::file;
 use crate::output::Output;
 use card_program::outcome::Outcome;
-use edition::Edition;
 use program::mistake::Mistake;
 
 // Writes this output of a file to another, under the edition that these bytes state.
 pub fn work(rt: &HostRuntime, output: Output, edition: &[u8], file: &[u8], out: &[u8]) -> Outcome
     ensures { Worked (edition_of edition.now) result }
 {
-    match edition::edition_of(edition) {
-        Edition::NoNumber => Outcome::Mistake(Mistake::EditionNoNumber),
-        Edition::Of(number) => file::copy(rt, output, number, file, out),
-    }
+    let number = edition::edition_of(edition).ok_or(Mistake::EditionNoNumber)?;
+    file::copy(rt, output, number, file, out)
 }

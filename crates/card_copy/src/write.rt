@@ -1,42 +1,22 @@
 // What is written of a card file: its lines, masked, or a header line and the rows of its adjustments.
-ghost use Rattle.std.specs.Prelude.{◌≤◌, ◌≡◌, length, take};
+ghost use Rattle.std.specs.Prelude.{◌≤◌, ◌≡◌, length};
 ghost use Rattle.lines.specs.Lines.{cut};
 ghost use Rattle.card_run.specs.Running.{next_number};
 ghost use Rattle.adjustment_rows.specs.Row.{header};
 ghost use Rattle.adjustment_rows.specs.Rows.{rows_of};
-ghost use Rattle.card_copy.specs.Copying.{InHand, MayBeWritten, Filled, counts, finishes};
+ghost use Rattle.card_copy.specs.Copying.{InHand, MayBeWritten, Held, counts, finishes};
 
+use crate::hand::Hand;
 use crate::output::Output;
 use adjustment_rows::{row, rows};
 use card_stream::Stream;
 use out_file::draft::Draft;
-
-// What comes of writing the finished lines of a chunk.
-#[derive(Clone, Copy)]
-pub(crate) enum Finished {
-    // All of it is written, and the lines take so many bytes.
-    Lines(usize),
-    // The number of the error that a write left.
-    Failed(u64),
-}
 
 // Writes finished lines of what is in hand, which are masked. Nothing else here writes lines.
 fn write_finished(before: Stream, draft: &Draft, lines: &[u8]) -> Result<(), u64>
     requires { MayBeWritten before lines.now }
 {
     draft.write(lines)
-}
-
-// Masks and writes the lines among the first `end` bytes.
-fn write_masked(before: Stream, draft: &Draft, buffer: &mut [u8], end: usize) -> Finished
-    requires { Filled buffer.old end × InHand before (take end buffer.old) }
-    ensures { finishes buffer.old end buffer.new result }
-{
-    let lines = card_mask::mask_lines(&mut buffer[0..end]);
-    match write_finished(before, draft, &buffer[0..lines]) {
-        Ok(()) => Finished::Lines(lines),
-        Err(error) => Finished::Failed(error),
-    }
 }
 
 // Room for the rows of a buffer's lines, which take at most twice as many bytes as these. The `ensures` gives only the length, which lending it as a slice
@@ -54,35 +34,42 @@ fn write_adjustments(before: Stream, bytes: &[u8], draft: &Draft, rows: &[u8]) -
     draft.write(rows)
 }
 
-// Puts and writes the rows of the lines in these bytes.
-fn write_rows(before: Stream, draft: &Draft, bytes: &[u8]) -> Finished
+// Puts and writes the rows of the lines in these bytes, and answers how many bytes the lines take; or gives the number of the error that a write left.
+fn write_rows(before: Stream, draft: &Draft, bytes: &[u8]) -> Result<usize, u64>
     requires { (length bytes.now ≤ 65536) × InHand before bytes.now }
     ensures { counts bytes.now result }
 {
     let mut room = room();
-    let state = before.state;
-    let rows = rows::put_rows(state.next_number(), bytes, &mut room);
-    let size = rows.size;
-    match write_adjustments(before, bytes, draft, &room[..size]) {
-        Ok(()) => Finished::Lines(rows.lines),
-        Err(error) => Finished::Failed(error),
-    }
+    let rows = rows::put_rows(before.state.next_number(), bytes, &mut room);
+    write_adjustments(before, bytes, draft, &room[..rows.size])?;
+    Ok(rows.lines)
 }
 
-// Writes what is made of the lines among the first `end` bytes.
-pub(crate) fn write_output(
-    output: Output,
-    before: Stream,
-    draft: &Draft,
-    buffer: &mut [u8],
-    end: usize,
-) -> Finished
-    requires { Filled buffer.old end × InHand before (take end buffer.old) }
-    ensures { finishes buffer.old end buffer.new result }
-{
-    match output {
-        Output::MaskedCopy => write_masked(before, draft, buffer, end),
-        Output::Adjustments => write_rows(before, draft, &buffer[0..end]),
+impl Hand {
+    // Masks and writes the lines, and answers how many bytes they take; or gives the number of the error that a write left.
+    fn write_masked(self, draft: &Draft, buffer: &mut [u8]) -> Result<usize, u64>
+        requires { Held self buffer.old }
+        ensures { finishes buffer.old self.end buffer.new result }
+    {
+        let lines = card_mask::mask_lines(&mut buffer[0..self.end]);
+        write_finished(self.before, draft, &buffer[0..lines])?;
+        Ok(lines)
+    }
+
+    // Writes what is made of the lines, and answers how many bytes they take.
+    pub(crate) fn write_output(
+        self,
+        output: Output,
+        draft: &Draft,
+        buffer: &mut [u8],
+    ) -> Result<usize, u64>
+        requires { Held self buffer.old }
+        ensures { finishes buffer.old self.end buffer.new result }
+    {
+        match output {
+            Output::MaskedCopy => self.write_masked(draft, buffer),
+            Output::Adjustments => write_rows(self.before, draft, &buffer[0..self.end]),
+        }
     }
 }
 

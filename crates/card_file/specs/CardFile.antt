@@ -1,13 +1,13 @@
 -- A card file read whole: at each record "13, 12, 3, 4, ..".
 use Rattle.std.specs.Prelude.{ℕ, List, [], ◌∷◌, cond}
+use mathlib.Core.List.{foldl}
 use Rattle.refusal.specs.declared.Cause.TheVariants.{NoLineEnd}
 use Rattle.lines.specs.Lines.{Lines, cut, ends_in_cr, without_last}
 use Rattle.card_run.specs.declared.stage.Stage.{Stage}
 use Rattle.card_run.specs.declared.running.Running.{Running}
-use Rattle.card_run.specs.declared.answer.CardAnswer.{CardAnswer}
 use Rattle.card_run.specs.Stage.{is_open}
 use Rattle.card_run.specs.Running.{open_of, refused_at, late_at, closed_of}
-use Rattle.card_run.specs.Answer.{answer_of}
+use Rattle.card_run.specs.Answer.{answer_of, CardAnswer}
 use Rattle.card_file.specs.Feeding.{fed_of}
 
 -- 3, "no LF in the rest, or the next LF has no CR right before it in the record"; 13, "bytes after the end", comes first
@@ -23,8 +23,7 @@ line_of st piece = cond (ends_in_cr piece) (fed_of st (without_last piece)) (une
 
 -- one piece after the other
 unfoldable pub lines_of : Running → List (List ℕ) → Running
-lines_of st [] = st
-lines_of st (piece ∷ pieces) = lines_of (line_of st piece) pieces
+lines_of st pieces = foldl line_of st pieces
 
 -- what is left behind the last LF: nothing, and the file is closed (12, "file ends too early"), or bytes without a line end
 unfoldable pub end_of : Running → List ℕ → Running

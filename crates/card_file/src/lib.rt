@@ -3,11 +3,10 @@
 
 ghost use Rattle.std.specs.Prelude.{◌≡◌};
 ghost use Rattle.card_file.specs.Feeding.{fed_of};
-ghost use Rattle.card_file.specs.CardFile.{line_of, unended_of, check_of};
+ghost use Rattle.card_file.specs.CardFile.{line_of, unended_of, end_of, check_of};
 
 use card_run::answer::CardAnswer;
 use card_run::running::Running;
-use lines::Found;
 use refusal::Cause;
 
 pub mod room;
@@ -30,29 +29,31 @@ pub fn take_line(state: Running, piece: &[u8]) -> Running
 }
 
 // What is left has no line end: 13 behind A9, else 3.
+#[tactic(auto, unfolding(crate::specs::CardFile::unended_at))]
 pub fn no_line_end(state: Running) -> Running
     ensures { result ≡ unended_of state }
 {
-    let stage = state.stage;
-    if stage.is_open() {
+    if state.stage.is_open() {
         return state.refused(Cause::NoLineEnd, 0);
     }
     state.late()
+}
+
+// What is left behind the last line end: nothing, and the file is closed, or bytes without a line end.
+#[tactic(auto, using(crate::proofs::Steps::nothing_left, crate::proofs::Steps::bytes_left))]
+pub fn end(state: Running, rest: &[u8]) -> Running
+    ensures { result ≡ end_of state rest.now }
+{
+    if rest.is_empty() {
+        return state.close();
+    }
+    no_line_end(state)
 }
 
 // The answer of a file of this edition.
 pub fn check(edition: u64, file: &[u8]) -> CardAnswer
     ensures { result ≡ check_of edition file.now }
 {
-    let mut state = Running::open(edition);
-    let mut at = 0;
-    while at < file.len() {
-        let Found::At(end) = lines::next_lf(file, at) else {
-            return no_line_end(state).answer();
-        };
-        state = take_line(state, &file[at..end]);
-        at = end + 1;
-    }
-    let closed = state.close();
-    closed.answer()
+    let (state, rest) = lines::take_pieces(Running::open(edition), file, take_line);
+    end(state, rest).answer()
 }

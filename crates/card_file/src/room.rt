@@ -3,15 +3,16 @@ ghost use Rattle.std.specs.Prelude.{◌≡◌};
 ghost use Rattle.card_file.specs.Room.{answer_with_room};
 
 use card_run::answer::CardAnswer;
-use refusal::{Cause, Fault, Refusal};
+use refusal::{Cause, Refusal};
 
 // 1 and 22, then 2 for an output with less room than is needed, then the file's own.
+#[tactic(auto, using(crate::proofs::Rooms::room_fault), unfolding(crate::specs::Room::answer_with_room))]
 pub fn check_with_room(edition: u64, file: &[u8], need: usize, room: usize) -> CardAnswer
     ensures { result ≡ answer_with_room edition file.now need room }
 {
-    let too_short = refusal::rule(Cause::OutputTooShort, 0, need <= room);
-    match edition::known::fault_of(edition).earlier(too_short) {
-        Fault::Nothing => crate::check(edition, file),
-        Fault::At(cause, _) => CardAnswer::Refused(Refusal::nowhere(cause)),
+    let room_enough = refusal::rule(Cause::OutputTooShort, 0, need <= room);
+    match refusal::earlier(edition::known::fault_of(edition), room_enough) {
+        Ok(()) => crate::check(edition, file),
+        Err(fault) => Some(Err(Refusal::nowhere(fault.cause))),
     }
 }

@@ -39,22 +39,20 @@ impl A0 {
     pub const NSEQ: Field = Field(70, 75, Content::Digits);
 
     // The first fault of a record of this kind among its width and its fields.
-    pub fn fault(edition: u64, bytes: &[u8]) -> Fault
+    #[tactic(auto, using(card_content::proofs::Rows::width_and_fields))]
+    pub fn fault(edition: u64, bytes: &[u8]) -> Result<(), Fault>
         ensures { result ≡ first_broken (record_rules edition bytes.now 75 a0_table) }
     {
-        if bytes.len() != A0::WIDTH {
-            return Fault::At(Cause::WrongWidth, 0);
-        }
-        A0::VERSION
-            .fault(edition, bytes)
-            .earlier(A0::DATE.fault(edition, bytes))
-            .earlier(A0::TIME.fault(edition, bytes))
-            .earlier(A0::MOVEMENT.fault(edition, bytes))
-            .earlier(A0::NAME.fault(edition, bytes))
-            .earlier(A0::SENDER.fault(edition, bytes))
-            .earlier(A0::RECEIVER.fault(edition, bytes))
-            .earlier(A0::PROCESSING.fault(edition, bytes))
-            .earlier(A0::NSEQ.fault(edition, bytes))
+        refusal::rule(Cause::WrongWidth, 0, bytes.len() == A0::WIDTH)?;
+        A0::VERSION.fault(edition, bytes)?;
+        A0::DATE.fault(edition, bytes)?;
+        A0::TIME.fault(edition, bytes)?;
+        A0::MOVEMENT.fault(edition, bytes)?;
+        A0::NAME.fault(edition, bytes)?;
+        A0::SENDER.fault(edition, bytes)?;
+        A0::RECEIVER.fault(edition, bytes)?;
+        A0::PROCESSING.fault(edition, bytes)?;
+        A0::NSEQ.fault(edition, bytes)
     }
 
     // The numbers of a record of this kind.

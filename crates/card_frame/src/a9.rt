@@ -23,15 +23,13 @@ impl A9 {
     pub const NSEQ: Field = Field(9, 14, Content::Digits);
 
     // The first fault of a record of this kind among its width and its fields.
-    pub fn fault(edition: u64, bytes: &[u8]) -> Fault
+    #[tactic(auto, using(card_content::proofs::Rows::width_and_fields))]
+    pub fn fault(edition: u64, bytes: &[u8]) -> Result<(), Fault>
         ensures { result ≡ first_broken (record_rules edition bytes.now 14 a9_table) }
     {
-        if bytes.len() != A9::WIDTH {
-            return Fault::At(Cause::WrongWidth, 0);
-        }
-        A9::COUNT
-            .fault(edition, bytes)
-            .earlier(A9::NSEQ.fault(edition, bytes))
+        refusal::rule(Cause::WrongWidth, 0, bytes.len() == A9::WIDTH)?;
+        A9::COUNT.fault(edition, bytes)?;
+        A9::NSEQ.fault(edition, bytes)
     }
 
     // The numbers of a record of this kind.

@@ -24,16 +24,14 @@ impl L0 {
     pub const NSEQ: Field = Field(13, 18, Content::Digits);
 
     // The first fault of a record of this kind among its width and its fields.
-    pub fn fault(edition: u64, bytes: &[u8]) -> Fault
+    #[tactic(auto, using(card_content::proofs::Rows::width_and_fields))]
+    pub fn fault(edition: u64, bytes: &[u8]) -> Result<(), Fault>
         ensures { result ≡ first_broken (record_rules edition bytes.now 18 l0_table) }
     {
-        if bytes.len() != L0::WIDTH {
-            return Fault::At(Cause::WrongWidth, 0);
-        }
-        L0::DATE
-            .fault(edition, bytes)
-            .earlier(L0::CURRENCY.fault(edition, bytes))
-            .earlier(L0::NSEQ.fault(edition, bytes))
+        refusal::rule(Cause::WrongWidth, 0, bytes.len() == L0::WIDTH)?;
+        L0::DATE.fault(edition, bytes)?;
+        L0::CURRENCY.fault(edition, bytes)?;
+        L0::NSEQ.fault(edition, bytes)
     }
 
     // The numbers of a record of this kind.

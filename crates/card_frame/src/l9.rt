@@ -26,16 +26,14 @@ impl L9 {
     pub const NSEQ: Field = Field(23, 28, Content::Digits);
 
     // The first fault of a record of this kind among its width and its fields.
-    pub fn fault(edition: u64, bytes: &[u8]) -> Fault
+    #[tactic(auto, using(card_content::proofs::Rows::width_and_fields))]
+    pub fn fault(edition: u64, bytes: &[u8]) -> Result<(), Fault>
         ensures { result ≡ first_broken (record_rules edition bytes.now 28 l9_table) }
     {
-        if bytes.len() != L9::WIDTH {
-            return Fault::At(Cause::WrongWidth, 0);
-        }
-        L9::COUNT
-            .fault(edition, bytes)
-            .earlier(L9::SUM.fault(edition, bytes))
-            .earlier(L9::NSEQ.fault(edition, bytes))
+        refusal::rule(Cause::WrongWidth, 0, bytes.len() == L9::WIDTH)?;
+        L9::COUNT.fault(edition, bytes)?;
+        L9::SUM.fault(edition, bytes)?;
+        L9::NSEQ.fault(edition, bytes)
     }
 
     // The numbers of a record of this kind.

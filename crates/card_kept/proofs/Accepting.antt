@@ -13,7 +13,6 @@ use Rattle.card_record.specs.declared.kind.Kind.TheVariants.{A0, A9}
 use Rattle.card_run.specs.declared.stage.Stage.TheVariants.{Start, BetweenBatches, Ended}
 use Rattle.card_run.specs.declared.running.Running.{Running}
 use Rattle.card_run.specs.declared.answer.Accepted.{Accepted}
-use Rattle.card_run.specs.declared.answer.CardAnswer.TheVariants.{Accepted as accepted}
 use Rattle.card_run.specs.Stage.{placed}
 use Rattle.card_run.specs.Batch.{no_transaction}
 use Rattle.card_run.specs.Running.{open_at, open_stage, open_of, moved, closed_at, closed_of}
@@ -30,6 +29,7 @@ use Rattle.card_kept.proofs.TwoSets.{same_sets}
 use Rattle.card_kept.proofs.PlainSteps.{same_at, after, behind_plain, Small, still_small, step}
 use Rattle.card_kept.proofs.OneLine.{file_cut}
 use Rattle.card_kept.proofs.Batches.{fed_row, lines_are, Comes, comes, last_batch, batches_taken}
+use Rattle.std.specs.Prelude.{Ok, Some}
 
 -- a current edition is open
 pub opens : (e : ℕ) → current e ≡ true → open_stage e ≡ Start
@@ -87,7 +87,7 @@ file_taken e f is_current k =
     })
 
 -- a file that keeps the rules is accepted with its numbers
-pub kept_accepted : (e : ℕ) (bytes : List ℕ) (k : Kept e bytes) → check_of e bytes ≡ accepted (plain_numbers k.file)
+pub kept_accepted : (e : ℕ) (bytes : List ℕ) (k : Kept e bytes) → check_of e bytes ≡ Some (Ok (plain_numbers k.file))
 unfolding end_of closed_at answer_at
 kept_accepted e bytes k =
     let f = k.file in

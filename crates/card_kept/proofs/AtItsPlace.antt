@@ -5,15 +5,11 @@ use mathlib.Core.Path.{◌≡◌, refl, sym, ◌∙◌, ap}
 use mathlib.Core.List.{List, ◌∷◌}
 use mathlib.Core.Bool.{false, not, true≢false}
 use Rattle.refusal.specs.declared.Cause.TheVariants.{KindNotAllowedHere, BytesAfterTheEnd}
-use Rattle.refusal.specs.declared.Fault.{Fault}
-use Rattle.refusal.specs.declared.Fault.TheVariants.{Nothing, At}
-use Rattle.refusal.specs.Fault.{rule_of, earlier_of}
+use Rattle.refusal.specs.Fault.{rule_of, earlier_of, Judged}
 use Rattle.refusal.specs.Rules.{rule_at, first_broken}
 use Rattle.refusal.proofs.Rules.{in_a_row}
 use Rattle.card_record.specs.declared.kind.Kind.{Kind}
 use Rattle.card_record.specs.declared.kind.Kind.TheVariants.{A0, L0, Cv, Aj, L9, A9}
-use Rattle.card_record.specs.declared.kind.KindFound.{KindFound}
-use Rattle.card_record.specs.declared.kind.KindFound.TheVariants.{Known, Unknown}
 use Rattle.card_record.specs.Kind.{kind_of}
 use Rattle.card_record.specs.Reading.{kind_rules, right_reading, judged_as, read_found, reading_of}
 use Rattle.card_run.specs.Running.{late_at}
@@ -27,28 +23,29 @@ use Rattle.card_file.specs.Feeding.{fed_of}
 use Rattle.card_run.specs.Answer.{answer_at, answer_of}
 use Rattle.card_run.proofs.FileRows.{is_refusal}
 use Rattle.card_kept.specs.FirstFault.{ended, kind_rule, rules_as, rules_from_kind, rules_at}
+use Rattle.std.specs.Prelude.{None, Option, Some, Ok, Err}
 
 module _ (st : Running) (r : List ℕ) where
   -- the place, the record's own fault, the joined rules
-  in_order : Kind → Fault → Fault
+  in_order : Kind → Judged → Judged
   in_order kind fault =
       earlier_of (rule_of KindNotAllowedHere 0 (placed st.stage kind)) (earlier_of fault (first_broken (joined_at st (right_reading kind r))))
 
-  judged : (kind : Kind) (fault : Fault) → first_broken (rules_of st (judged_as kind fault (right_reading kind r))) ≡ in_order kind fault
+  judged : (kind : Kind) (fault : Judged) → first_broken (rules_of st (judged_as kind fault (right_reading kind r))) ≡ in_order kind fault
   unfolding in_order first_broken rules_of judged_as right_reading
-  judged A0 Nothing = refl
-  judged L0 Nothing = refl
-  judged Cv Nothing = refl
-  judged Aj Nothing = refl
-  judged L9 Nothing = refl
-  judged A9 Nothing = refl
-  judged kind (At cause column) = refl
+  judged A0 (Ok none) = refl
+  judged L0 (Ok none) = refl
+  judged Cv (Ok none) = refl
+  judged Aj (Ok none) = refl
+  judged L9 (Ok none) = refl
+  judged A9 (Ok none) = refl
+  judged kind (Err fault) = refl
 
   -- of the kind that it names
-  as_found : (found : KindFound) → first_broken (rules_of st (read_found found st.edition r)) ≡ first_broken (kind_rule found ∷ rules_as found st r)
+  as_found : (found : Option Kind) → first_broken (rules_of st (read_found found st.edition r)) ≡ first_broken (kind_rule found ∷ rules_as found st r)
   unfolding in_order first_broken rules_of read_found
-  as_found Unknown = refl
-  as_found (Known kind) =
+  as_found None = refl
+  as_found (Some kind) =
       let own = kind_rules kind st.edition r in
       judged kind (first_broken own) ∙
       ap (earlier_of (rule_of KindNotAllowedHere 0 (placed st.stage kind))) (sym (in_a_row own (joined_at st (right_reading kind r))))

@@ -18,9 +18,7 @@ use Rattle.text.specs.Part.{positions}
 use Rattle.text.proofs.Alphabets.{both, both_left, both_right}
 use Rattle.text.proofs.Literals.{same_equal, equal_same}
 use Rattle.pan.specs.CardField.{well_formed}
-use Rattle.calendar.specs.declared.when.When.{When}
-use Rattle.calendar.specs.declared.when.When.TheVariants.{NotDigits, NoSuch, At}
-use Rattle.calendar.specs.When.{when_rules}
+use Rattle.calendar.specs.When.{when_rules, When}
 use Rattle.calendar.specs.Day.{is_day, year_first}
 use Rattle.calendar.specs.Time.{is_time, time_of}
 use Rattle.calendar.proofs.Whens.{Means, year_first_lem, time_of_lem}
@@ -30,6 +28,8 @@ use Rattle.card_content.specs.declared.field.Field.{Field}
 use Rattle.card_content.specs.Content.{no_day, day_or_zeros_rules, no_card, card_or_blanks_rules, content_rules}
 use Rattle.card_content.specs.Field.{field_rules, table_rules, number_in}
 use Rattle.card_kept.specs.Fields.{ContentKept, FieldsKept, number_at}
+use Rattle.calendar.specs.declared.when.Unreadable.TheVariants.{NoSuch, NotDigits}
+use Rattle.std.specs.Prelude.{Err, Ok}
 
 -- a rule alone
 one_holds : (h : Bool) → h && true ≡ true → h ≡ true
@@ -50,9 +50,9 @@ module _ (column width : ℕ) (test : ℕ → Bool) (p : List ℕ) where
   when_holds : (w : When) → Means width test (value_of p) p w → all_hold (when_rules column w) ≡ true →
       (holds_only digits p ≡ true) × (test (value_of p) ≡ true)
   unfolding all_hold when_rules
-  when_holds NotDigits m h = absurd (false≢true h)
-  when_holds NoSuch m h = absurd (false≢true h)
-  when_holds (At n) m h =
+  when_holds (Err NotDigits) m h = absurd (false≢true h)
+  when_holds (Err NoSuch) m h = absurd (false≢true h)
+  when_holds (Ok n) m h =
       let says = m.at n refl in
       (says.digits, sym (ap test says.number) ∙ says.real)
 

@@ -7,7 +7,6 @@ use mathlib.Core.List.{List, [], ◌∷◌, ◌++◌, map}
 use mathlib.Core.Bool.{true, false, true≢false, false≢true}
 use lib.ListN.{length}
 use Rattle.refusal.specs.declared.Cause.{Cause}
-use Rattle.refusal.specs.declared.Fault.TheVariants.{At}
 use Rattle.refusal.specs.declared.Refusal.{Refusal}
 use Rattle.refusal.specs.Nowhere.{nowhere}
 use Rattle.refusal.specs.Rules.{all_hold, FirstBroken}
@@ -20,7 +19,6 @@ use Rattle.edition.specs.Known.{current, edition_fault}
 use Rattle.card_run.specs.declared.stage.Stage.{Stage}
 use Rattle.card_run.specs.declared.stage.Stage.TheVariants.{Start, BetweenBatches, InBatch, Ended, Closed, Refused}
 use Rattle.card_run.specs.declared.running.Running.{Running}
-use Rattle.card_run.specs.declared.answer.CardAnswer.TheVariants.{Refused as refused}
 use Rattle.card_run.specs.Running.{open_of, closed_at}
 use Rattle.card_run.specs.Answer.{answer_at, answer_of, card_file_row}
 use Rattle.card_file.specs.Feeding.{fed_of}
@@ -31,6 +29,8 @@ use Rattle.card_kept.specs.State.{state_behind}
 use Rattle.card_kept.proofs.Stays as stays
 use Rattle.card_kept.proofs.State.{goes_on, state_known}
 use Rattle.card_kept.proofs.Outcomes.{Outcome, of_record, of_piece, of_rest, by_refused, refused_exactly, not_refused_exactly}
+use Rattle.refusal.specs.Fault.{at}
+use Rattle.std.specs.Prelude.{Err, Some}
 
 -- THE THEOREM of a record, in every state that is not refused
 pub first_fault_of_record : (st : Running) (r : List ℕ) → is_refusal (answer_of st) ≡ false → FirstFaultOfRecord st r
@@ -41,12 +41,12 @@ first_fault_of_record st r going =
     record {
       is_refused_lem = λ x.
           let exactly = refused_exactly o x in
-          (λ e. exactly.0 (same_answer _ (refused x) e), λ w. ap card_file_row (exactly.1 w));
+          (λ e. exactly.0 (same_answer _ (Some (Err x)) e), λ w. ap card_file_row (exactly.1 w));
       is_not = (λ e. (not_refused_exactly o).0 (told.1 e), λ h. told.0 ((not_refused_exactly o).1 h));
     }
 
 -- THE THEOREM of an edition with a fault: it refuses every file
-pub edition_first : (edition : ℕ) {cause : Cause} {column : ℕ} → edition_fault edition ≡ At cause column → (file : List ℕ) → check_of edition file ≡ refused (nowhere cause)
+pub edition_first : (edition : ℕ) {cause : Cause} {column : ℕ} → edition_fault edition ≡ at cause column → (file : List ℕ) → check_of edition file ≡ Some (Err (nowhere cause))
 edition_first edition {cause = cause} bad file =
     let x = nowhere cause in
     let e = stays.edition_refused edition bad in
@@ -93,7 +93,7 @@ end_accepted st (b ∷ s) h = absurd (false≢true (both_right (end_rule st).hol
 
 module _ (edition : ℕ) (is_current : current edition ≡ true) (file : List ℕ) where
   -- a first fault leads to its refusal
-  fault_refused : (x : Refusal) → FirstFaultOfFile edition file x → check_of edition file ≡ refused x
+  fault_refused : (x : Refusal) → FirstFaultOfFile edition file x → check_of edition file ≡ Some (Err x)
   unfolding next_of ran
   fault_refused x f =
       let w = f.fault in
@@ -129,7 +129,7 @@ module _ (edition : ℕ) (is_current : current edition ≡ true) (file : List �
       by (inr (cause, column, w)) =
           inr (record { cause = cause; «record» = suc (length w.earlier); column = column }, record { fault = w; number = refl })
 
-  refused_from : (x : Refusal) → check_of edition file ≡ refused x → NoFault (rules_behind edition) file ⊎ ((x : Refusal) × FirstFaultOfFile edition file x) →
+  refused_from : (x : Refusal) → check_of edition file ≡ Some (Err x) → NoFault (rules_behind edition) file ⊎ ((x : Refusal) × FirstFaultOfFile edition file x) →
       FirstFaultOfFile edition file x
   refused_from x e (inl none) = absurd (true≢false (sym (none_accepted none) ∙ ap is_accepted e))
   refused_from x e (inr (y, f)) =
@@ -147,7 +147,7 @@ module _ (edition : ℕ) (is_current : current edition ≡ true) (file : List �
   unfolding card_file_row
   first_fault_decides =
       record {
-        is_refused_lem = λ x. (λ e. refused_from x (same_answer _ (refused x) e) none_or_refused, λ f. ap card_file_row (fault_refused x f));
+        is_refused_lem = λ x. (λ e. refused_from x (same_answer _ (Some (Err x)) e) none_or_refused, λ f. ap card_file_row (fault_refused x f));
         is_accepted_lem = (
           λ a. accepted_from (accepted_told (check_of edition file) ∙ a) none_or_refused,
           λ none. sym (accepted_told (check_of edition file)) ∙ none_accepted none,

@@ -3,8 +3,6 @@ use Prim.Native.Nat.{ℕ}
 use mathlib.Core.Path.{◌≡◌, refl, sym, ◌∙◌, ap, ap₂, subst}
 use mathlib.Core.List.{List, [], ◌∷◌, map, append-nil}
 use mathlib.Core.Bool.{true, false≢true}
-use Rattle.refusal.specs.declared.Fault.{Fault}
-use Rattle.refusal.specs.declared.Fault.TheVariants.{Nothing, At}
 use Rattle.refusal.specs.declared.Refusal.{Refusal}
 use Rattle.text.proofs.Alphabets.{both_left, both_right}
 use Rattle.lines.specs.Lines.{no_lf, all_no_lf, with_cr, rejoined, cut}
@@ -15,7 +13,6 @@ use Rattle.card_record.specs.declared.kind.Kind.{Kind}
 use Rattle.card_record.specs.declared.kind.Kind.TheVariants.{A0, L0, Cv, Aj, L9, A9}
 use Rattle.card_run.specs.declared.stage.Stage.TheVariants.{Start, Refused}
 use Rattle.card_run.specs.declared.answer.Accepted.{Accepted}
-use Rattle.card_run.specs.declared.answer.CardAnswer.TheVariants.{Accepted as accepted}
 use Rattle.card_run.specs.Stage.{placed}
 use Rattle.card_run.specs.Running.{open_at, open_stage, open_of}
 use Rattle.card_file.specs.CardFile.{check_of}
@@ -26,14 +23,16 @@ use Rattle.card_kept.proofs.PlainSteps.{behind_plain, still_small, stepped}
 use Rattle.card_kept.proofs.Accepting.{open_small}
 use Rattle.card_kept.proofs.Refused.{EndsAccepted, alive, piece, too_early}
 use Rattle.card_kept.proofs.Left.{BatchesLeft, went_on, says}
+use Rattle.refusal.specs.Fault.{Judged}
+use Rattle.std.specs.Prelude.{Ok, Some, Err}
 
 -- an edition that is not refused is current
 is_current : (e : ℕ) → Alive (open_of e) → (open_stage e ≡ Start) × (current e ≡ true)
 is_current e goes = by (edition_fault e) refl goes
   where
-    by : (f : Fault) → edition_fault e ≡ f → ((x : Refusal) → open_at f ≡ Refused x → ⊥) → (open_at f ≡ Start) × (current e ≡ true)
-    by Nothing q goes = (refl, fault_current e q)
-    by (At cause column) q goes = absurd (goes _ refl)
+    by : (f : Judged) → edition_fault e ≡ f → ((x : Refusal) → open_at f ≡ Refused x → ⊥) → (open_at f ≡ Start) × (current e ≡ true)
+    by (Ok none) q goes = (refl, fault_current e q)
+    by (Err fault) q goes = absurd (goes _ refl)
 
 -- pieces and a rest are a file that keeps the rules
 record Whole (e : ℕ) (ps : List (List ℕ)) (rest : List ℕ) : Type 0 where
@@ -76,7 +75,7 @@ whole e (p ∷ ps) rest a q clear h =
     subst (λ p. Whole e (p ∷ ps) rest) (sym one.is) (begins e r ps rest took.kind place took.kept others)
 
 -- so the bytes are those of the file
-pub accepted_kept : (e : ℕ) (bytes : List ℕ) (a : Accepted) → check_of e bytes ≡ accepted a → Kept e bytes
+pub accepted_kept : (e : ℕ) (bytes : List ℕ) (a : Accepted) → check_of e bytes ≡ Some (Ok a) → Kept e bytes
 accepted_kept e bytes a h =
     let ls = cut bytes in
     let c = cut_is_cut bytes in

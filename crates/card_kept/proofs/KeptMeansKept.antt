@@ -2,8 +2,8 @@
 use Prim.Native.Nat.{ℕ}
 use mathlib.Core.Path.{◌≡◌, sym, ◌∙◌, subst}
 use mathlib.Core.List.{List}
+use Rattle.card_run.specs.Answer.{CardAnswer}
 use Rattle.card_run.specs.declared.answer.Accepted.{Accepted}
-use Rattle.card_run.specs.declared.answer.CardAnswer.TheVariants.{Accepted as accepted}
 use Rattle.card_file.specs.CardFile.{check_of}
 use Rattle.card_kept.specs.Accepts.{Accepts}
 use Rattle.card_kept.specs.Kept.{Kept}
@@ -11,6 +11,7 @@ use Rattle.card_kept.specs.Numbers.{Numbers}
 use Rattle.card_kept.proofs.Accepting.{plain_numbers, kept_accepted}
 use Rattle.card_kept.proofs.Inverting.{accepted_kept}
 use Rattle.card_kept.proofs.Numbers.{plain}
+use Rattle.std.specs.Prelude.{Ok, Some}
 
 -- a file is accepted exactly where it keeps the rules
 pub kept_means_kept : (edition : ℕ) (bytes : List ℕ) → (Accepts edition bytes → Kept edition bytes) × (Kept edition bytes → Accepts edition bytes)
@@ -20,11 +21,11 @@ kept_means_kept edition bytes = (
 )
 
 -- its numbers are the plain ones of its records
-pub plain_numbers_lem : (edition : ℕ) (bytes : List ℕ) (a : Accepted) → check_of edition bytes ≡ accepted a → (kept : Kept edition bytes) → Numbers kept.file a
+pub plain_numbers_lem : (edition : ℕ) (bytes : List ℕ) (a : Accepted) → check_of edition bytes ≡ Some (Ok a) → (kept : Kept edition bytes) → Numbers kept.file a
 plain_numbers_lem edition bytes a h kept =
     let e = kept_accepted edition bytes kept in
     let same : plain_numbers kept.file ≡ a = told (sym e ∙ h) in
     subst (Numbers kept.file) same (plain edition bytes kept)
   where
-    told : {a b : Accepted} → accepted a ≡ accepted b → a ≡ b
+    told : {a b : Accepted} → ◌≡◌ {A = CardAnswer} (Some (Ok a)) (Some (Ok b)) → a ≡ b
     told e = cc

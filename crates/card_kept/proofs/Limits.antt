@@ -11,9 +11,7 @@ use borrow.Author.Tests.{ne_eqb}
 use Rattle.refusal.specs.declared.Cause.{Cause}
 use Rattle.refusal.specs.declared.Refusal.{Refusal}
 use Rattle.refusal.specs.declared.Cause.TheVariants.{NoLineEnd, SequenceWrong, TrailerDisagrees}
-use Rattle.refusal.specs.declared.Fault.{Fault}
-use Rattle.refusal.specs.declared.Fault.TheVariants.{Nothing, At}
-use Rattle.refusal.specs.Fault.{earlier_of}
+use Rattle.refusal.specs.Fault.{earlier_of, Judged, at}
 use Rattle.refusal.specs.Rules.{Rule, rule_at, first_broken}
 use Rattle.refusal.proofs.Rules.{in_a_row, none_broken, is_first, gives_first}
 use Rattle.lines.specs.Lines.{cut, ends_in_cr, without_last}
@@ -27,7 +25,6 @@ use Rattle.card_frame.specs.L9.{l9_of}
 use Rattle.card_frame.proofs.Ranges.{a0_below, l0_below, l9_below, a9_below}
 use Rattle.card_record.specs.declared.kind.Kind.{Kind}
 use Rattle.card_record.specs.declared.kind.Kind.TheVariants.{A0, L0, Cv, Aj, L9, A9}
-use Rattle.card_record.specs.declared.kind.KindFound.TheVariants.{Known}
 use Rattle.card_record.specs.Kind.{kind_of}
 use Rattle.card_record.specs.Reading.{right_reading}
 use Rattle.card_run.specs.declared.running.Running.{Running}
@@ -42,10 +39,11 @@ use Rattle.card_kept.specs.State.{plain_state}
 use Rattle.card_kept.specs.Limits.{before_joined, nseq_column, MillionthRecord, before_sum, in_batch, NoSumIsRight, SalesOf, SumOfNoTrailer}
 use Rattle.card_kept.proofs.FirstFault.{none_or_refused, first_fault_decides}
 use Rattle.card_kept.proofs.State.{at_most}
+use Rattle.std.specs.Prelude.{Some, Ok, Err}
 
 -- a piece that breaks a rule refuses its file
 refused_there : (edition : ℕ) (file : List ℕ) (earlier : List (List ℕ)) (p : List ℕ) → current edition ≡ true → ComesBehind (rules_behind edition) file earlier p →
-    (cause : Cause) (column : ℕ) → first_broken (next_rules (plain_state edition (records_in earlier)) (piece p)) ≡ At cause column →
+    (cause : Cause) (column : ℕ) → first_broken (next_rules (plain_state edition (records_in earlier)) (piece p)) ≡ at cause column →
     card_file_row (check_of edition file) ≡ refused_row (record { cause = cause; «record» = suc (length earlier); column = column })
 unfolding comes_first
 refused_there edition file earlier p is_current c cause column f =
@@ -53,7 +51,7 @@ refused_there edition file earlier p is_current c cause column f =
     (record { fault = comes_first (rules_behind edition) file earlier p cause column c (is_first _ cause column f); number = refl })
 
 -- the rules of a piece of a kind: those before the joined ones, and the joined ones
-in_two : (st : Running) (kind : Kind) (p : List ℕ) → kind_of (without_last p) ≡ Known kind →
+in_two : (st : Running) (kind : Kind) (p : List ℕ) → kind_of (without_last p) ≡ Some kind →
     next_rules st (piece p) ≡ before_joined st kind p ++ joined_at st (right_reading kind (without_last p))
 in_two st kind p known =
     ap (λ found. end_rule st ∷ rule_at NoLineEnd 0 (ends_in_cr p) ∷ kind_rule found ∷ rules_as found st (without_last p)) known
@@ -109,9 +107,9 @@ millionth_record =
 -- no fourteen digits are the sum, so whatever an L9 says there is wrong
 module _ (edition : ℕ) (file : List ℕ) (earlier : List (List ℕ)) (none : (sum : ℕ) → sum < 10 ^ 14 → sum + taken (in_batch earlier) ≡ added (in_batch earlier) → ⊥) where
   -- its rules are those before that of its sum, and that one, which is broken
-  sum_last : (p : List ℕ) → kind_of (without_last p) ≡ Known L9 →
+  sum_last : (p : List ℕ) → kind_of (without_last p) ≡ Some L9 →
       first_broken (next_rules (plain_state edition (records_in earlier)) (piece p)) ≡
-      earlier_of (first_broken (before_sum (plain_state edition (records_in earlier)) p)) (At TrailerDisagrees 9)
+      earlier_of (first_broken (before_sum (plain_state edition (records_in earlier)) p)) (at TrailerDisagrees 9)
   unfolding first_broken joined_at right_reading
   sum_last p is-l9 =
       let st = plain_state edition (records_in earlier) in
@@ -121,13 +119,16 @@ module _ (edition : ℕ) (file : List ℕ) (earlier : List (List ℕ)) (none : (
       ap first_broken (in_two st L9 p is-l9 ∙ sym (append_assoc (before_joined st L9 p) _ (sum ∷ []))) ∙ in_a_row (before_sum st p) (sum ∷ []) ∙ rw wrong
 
   -- so it is refused, by that or by an earlier one
-  anyhow : (p : List ℕ) → current edition ≡ true → ComesBehind (rules_behind edition) file earlier p → (before : Fault) →
-      first_broken (next_rules (plain_state edition (records_in earlier)) (piece p)) ≡ earlier_of before (At TrailerDisagrees 9) →
+  anyhow : (p : List ℕ) → current edition ≡ true → ComesBehind (rules_behind edition) file earlier p → (before : Judged) →
+      first_broken (next_rules (plain_state edition (records_in earlier)) (piece p)) ≡ earlier_of before (at TrailerDisagrees 9) →
       (refusal : Refusal) × (card_file_row (check_of edition file) ≡ refused_row refusal) × (refusal.«record» ≡ suc (length earlier))
-  anyhow p is_current c Nothing f =
+  anyhow p is_current c (Ok none) f =
       (record { cause = TrailerDisagrees; «record» = suc (length earlier); column = 9 }, refused_there edition file earlier p is_current c TrailerDisagrees 9 f, refl)
-  anyhow p is_current c (At cause column) f =
-      (record { cause = cause; «record» = suc (length earlier); column = column }, refused_there edition file earlier p is_current c cause column f, refl)
+  anyhow p is_current c (Err fault) f = (
+    record { cause = fault.cause; «record» = suc (length earlier); column = fault.column },
+    refused_there edition file earlier p is_current c fault.cause fault.column f,
+    refl,
+  )
 
   no_sum : NoSumIsRight edition file earlier
   no_sum =
@@ -136,7 +137,7 @@ module _ (edition : ℕ) (file : List ℕ) (earlier : List (List ℕ)) (none : (
         in_any_case = λ p is_current c is-l9. anyhow p is_current c (first_broken (before_sum st p)) (sum_last p is-l9);
         by_eleven = λ p is_current c is-l9 before.
             refused_there edition file earlier p is_current c TrailerDisagrees 9
-            (sum_last p is-l9 ∙ ap (λ f. earlier_of f (At TrailerDisagrees 9)) (none_broken (before_sum st p) before));
+            (sum_last p is-l9 ∙ ap (λ f. earlier_of f (at TrailerDisagrees 9)) (none_broken (before_sum st p) before));
       }
 
 -- what sales of one gross come to

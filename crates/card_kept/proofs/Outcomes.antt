@@ -7,8 +7,6 @@ use mathlib.Core.List.{List, [], ◌∷◌}
 use mathlib.Core.Bool.{Bool, true, false, cond, not, true≢false}
 use Rattle.refusal.specs.declared.Cause.{Cause}
 use Rattle.refusal.specs.declared.Cause.TheVariants.{NoLineEnd, EndsTooEarly, BytesAfterTheEnd}
-use Rattle.refusal.specs.declared.Fault.{Fault}
-use Rattle.refusal.specs.declared.Fault.TheVariants.{Nothing, At}
 use Rattle.refusal.specs.declared.Refusal.{Refusal}
 use Rattle.refusal.specs.Rules.{Rule, rule_at, first_broken, all_hold}
 use Rattle.refusal.proofs.Faults.{not_both}
@@ -31,7 +29,6 @@ use Rattle.card_record.specs.Reading.{reading_of}
 use Rattle.card_run.specs.declared.stage.Stage.{Stage}
 use Rattle.card_run.specs.declared.stage.Stage.TheVariants.{Start, BetweenBatches, InBatch, Ended, Closed, Refused}
 use Rattle.card_run.specs.declared.running.Running.{Running}
-use Rattle.card_run.specs.declared.answer.CardAnswer.TheVariants.{Refused as refused}
 use Rattle.card_run.specs.Running.{next_number, refused_at, closed_at, closed_of, late_at}
 use Rattle.card_step.specs.Behind.{behind}
 use Rattle.card_step.specs.Step.{behind_or_refused}
@@ -42,18 +39,20 @@ use Rattle.card_run.proofs.FileRows.{is_refusal}
 use Rattle.card_kept.specs.FirstFault.{ended, end_rule, rules_from_kind, rules_at, RefusedBy, next_rules}
 use Rattle.card_kept.proofs.Adjustments.{either_way}
 use Rattle.card_kept.proofs.AtItsPlace.{fed_by_fault}
+use Rattle.refusal.specs.Fault.{Judged, at, nothing}
+use Rattle.std.specs.Prelude.{Err, Some, Ok}
 
 -- what the first fault of rules makes of a run
 pub record Outcome (st after : Running) (rules : List Rule) : Type 0 where
-  pub broken : (cause : Cause) (column : ℕ) → first_broken rules ≡ At cause column → after ≡ refused_at cause column st
-  pub kept : first_broken rules ≡ Nothing → is_refusal (answer_of after) ≡ false
+  pub broken : (cause : Cause) (column : ℕ) → first_broken rules ≡ at cause column → after ≡ refused_at cause column st
+  pub kept : first_broken rules ≡ nothing → is_refusal (answer_of after) ≡ false
 
 module _ (st : Running) (going : is_refusal (answer_of st) ≡ false) where
   -- behind a record nothing is refused
   behind_goes_on : (reading : Reading) → is_refusal (answer_of (behind st reading)) ≡ false
   unfolding behind answer_at
   behind_goes_on unknown = going
-  behind_goes_on (faulty kind cause column) = going
+  behind_goes_on (faulty kind fault) = going
   behind_goes_on (a0 x) = refl
   behind_goes_on (l0 x) = refl
   behind_goes_on (cv x) = refl
@@ -104,7 +103,7 @@ module _ (st : Running) (going : is_refusal (answer_of st) ≡ false) where
   unfolding first_broken behind_or_refused closed_at answer_at
   of_close = by st.stage going
     where
-      early : (cause : Cause) (column : ℕ) → At EndsTooEarly 0 ≡ At cause column → refused_at EndsTooEarly 0 st ≡ refused_at cause column st
+      early : (cause : Cause) (column : ℕ) → at EndsTooEarly 0 ≡ at cause column → refused_at EndsTooEarly 0 st ≡ refused_at cause column st
       early cause column e = ap (behind_or_refused st unknown) e
 
       by : (s : Stage) → is_refusal (answer_at s st) ≡ false → Outcome st (closed_at s st) (rule_at EndsTooEarly 0 (ended s) ∷ [])
@@ -122,35 +121,35 @@ module _ (st : Running) (going : is_refusal (answer_of st) ≡ false) where
 
 module _ {st after : Running} {rules : List Rule} (o : Outcome st after rules) where
   -- the refusal that a first fault gives
-  pub refusal_given : (cause : Cause) (column : ℕ) → first_broken rules ≡ At cause column →
-      answer_of after ≡ refused (record { cause = cause; «record» = next_number st; column = column })
+  pub refusal_given : (cause : Cause) (column : ℕ) → first_broken rules ≡ at cause column →
+      answer_of after ≡ Some (Err (record { cause = cause; «record» = next_number st; column = column }))
   unfolding answer_at
   refusal_given cause column f = ap answer_of (o.broken cause column f)
 
   -- it is refused by the first rule that is broken
-  pub refused_by : (x : Refusal) → answer_of after ≡ refused x → RefusedBy st rules x
+  pub refused_by : (x : Refusal) → answer_of after ≡ Some (Err x) → RefusedBy st rules x
   refused_by x e = by (first_broken rules) refl
     where
-      by : (fault : Fault) → first_broken rules ≡ fault → RefusedBy st rules x
-      by Nothing f = absurd (true≢false (sym (ap is_refusal e) ∙ o.kept f))
-      by (At cause column) f =
-          let given = refusal_given cause column f in
-          let same : record { cause = cause; «record» = next_number st; column = column } ≡ x = cc in
-          subst (RefusedBy st rules) same (record { number = refl; first_broken_lem = is_first rules cause column f })
+      by : (fault : Judged) → first_broken rules ≡ fault → RefusedBy st rules x
+      by (Ok none) f = absurd (true≢false (sym (ap is_refusal e) ∙ o.kept f))
+      by (Err fault) f =
+          let given = refusal_given fault.cause fault.column f in
+          let same : record { cause = fault.cause; «record» = next_number st; column = fault.column } ≡ x = cc in
+          subst (RefusedBy st rules) same (record { number = refl; first_broken_lem = is_first rules fault.cause fault.column f })
 
   -- and by nothing else
-  pub by_refused : (x : Refusal) → RefusedBy st rules x → answer_of after ≡ refused x
+  pub by_refused : (x : Refusal) → RefusedBy st rules x → answer_of after ≡ Some (Err x)
   by_refused x by =
       refusal_given x.cause x.column (gives_first by.first_broken_lem) ∙
-      ap (λ (n : ℕ). refused (record { cause = x.cause; «record» = n; column = x.column })) (sym by.number)
+      ap (λ (n : ℕ). Some (Err (record { cause = x.cause; «record» = n; column = x.column }))) (sym by.number)
 
-  pub refused_exactly : (x : Refusal) → (answer_of after ≡ refused x) ↔ RefusedBy st rules x
+  pub refused_exactly : (x : Refusal) → (answer_of after ≡ Some (Err x)) ↔ RefusedBy st rules x
   refused_exactly x = (refused_by x, by_refused x)
 
   -- it is not refused exactly where all rules hold
   pub not_refused_exactly : (is_refusal (answer_of after) ≡ false) ↔ (all_hold rules ≡ true)
   not_refused_exactly = (λ h. by (first_broken rules) refl h, λ all. o.kept (none_broken rules all))
     where
-      by : (fault : Fault) → first_broken rules ≡ fault → is_refusal (answer_of after) ≡ false → all_hold rules ≡ true
-      by Nothing f h = all_hold_lem rules f
-      by (At cause column) f h = absurd (true≢false (sym (ap is_refusal (refusal_given cause column f)) ∙ h))
+      by : (fault : Judged) → first_broken rules ≡ fault → is_refusal (answer_of after) ≡ false → all_hold rules ≡ true
+      by (Ok none) f h = all_hold_lem rules f
+      by (Err fault) f h = absurd (true≢false (sym (ap is_refusal (refusal_given fault.cause fault.column f)) ∙ h))

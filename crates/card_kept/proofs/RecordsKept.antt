@@ -17,12 +17,12 @@ use Rattle.text.proofs.Literals.{same_equal}
 use Rattle.card_content.specs.Field.{table_rules, record_rules}
 use Rattle.card_record.specs.declared.kind.Kind.{Kind}
 use Rattle.card_record.specs.declared.kind.Kind.TheVariants.{A0, L0, Cv, Aj, L9, A9}
-use Rattle.card_record.specs.declared.kind.KindFound.TheVariants.{Known, Unknown}
 use Rattle.card_record.specs.Kind.{kind_named}
 use Rattle.card_record.specs.Reading.{width_of, table_of}
 use Rattle.card_record.proofs.Readings.{Right}
 use Rattle.card_kept.specs.Fields.{FieldsKept}
 use Rattle.card_kept.proofs.FieldsKept.{all_fit, table_holds, table_kept}
+use Rattle.std.specs.Prelude.{None, Some}
 
 -- the name of a kind
 abbrev pub name_of : Kind → String
@@ -34,7 +34,7 @@ name_of L9 = "L9"
 name_of A9 = "A9"
 
 -- two bytes that name a kind
-named_kind : (kind : Kind) → kind_named (ascii (name_of kind)) ≡ Known kind
+named_kind : (kind : Kind) → kind_named (ascii (name_of kind)) ≡ Some kind
 unfolding kind_named same_bytes
 named_kind A0 = refl
 named_kind L0 = refl
@@ -44,21 +44,21 @@ named_kind L9 = refl
 named_kind A9 = refl
 
 -- the first kind whose test holds is named
-kind_named_lem : (name : List ℕ) (kind : Kind) → kind_named name ≡ Known kind → name ≡ ascii (name_of kind)
+kind_named_lem : (name : List ℕ) (kind : Kind) → kind_named name ≡ Some kind → name ≡ ascii (name_of kind)
 unfolding kind_named
 kind_named_lem name kind e =
     by (same_bytes name (ascii "CV")) (same_bytes name (ascii "AJ")) (same_bytes name (ascii "L0")) (same_bytes name (ascii "L9")) (same_bytes name (ascii "A0"))
     (same_bytes name (ascii "A9"))
     refl refl refl refl refl refl e
   where
-    is : (k : Kind) → same_bytes name (ascii (name_of k)) ≡ true → Known k ≡ Known kind → name ≡ ascii (name_of kind)
+    is : (k : Kind) → same_bytes name (ascii (name_of k)) ≡ true → Some k ≡ Some kind → name ≡ ascii (name_of kind)
     is k t e =
         let z : k ≡ kind = cc in
         same_equal name (ascii (name_of k)) t ∙ ap (λ (k : Kind). ascii (name_of k)) z
 
     by : (a b c d f g : Bool) → same_bytes name (ascii "CV") ≡ a → same_bytes name (ascii "AJ") ≡ b → same_bytes name (ascii "L0") ≡ c →
         same_bytes name (ascii "L9") ≡ d → same_bytes name (ascii "A0") ≡ f → same_bytes name (ascii "A9") ≡ g →
-        cond a (Known Cv) (cond b (Known Aj) (cond c (Known L0) (cond d (Known L9) (cond f (Known A0) (cond g (Known A9) Unknown))))) ≡ Known kind →
+        cond a (Some Cv) (cond b (Some Aj) (cond c (Some L0) (cond d (Some L9) (cond f (Some A0) (cond g (Some A9) None))))) ≡ Some kind →
         name ≡ ascii (name_of kind)
     by true b c d f g p q s t u v e = is Cv p e
     by false true c d f g p q s t u v e = is Aj q e

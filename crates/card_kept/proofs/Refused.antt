@@ -11,7 +11,6 @@ use Rattle.card_run.specs.declared.stage.Stage.{Stage}
 use Rattle.card_run.specs.declared.stage.Stage.TheVariants.{Start, BetweenBatches, InBatch, Ended, Closed, Refused}
 use Rattle.card_run.specs.declared.running.Running.{Running}
 use Rattle.card_run.specs.declared.answer.Accepted.{Accepted}
-use Rattle.card_run.specs.declared.answer.CardAnswer.TheVariants.{Accepted as accepted, Refused as refused}
 use Rattle.card_run.specs.Stage.{placed}
 use Rattle.card_run.specs.Running.{closed_at, closed_of, late_at}
 use Rattle.card_file.specs.Feeding.{fed_of}
@@ -19,10 +18,11 @@ use Rattle.card_run.specs.Answer.{answer_at, answer_of}
 use Rattle.card_file.specs.CardFile.{unended_at, unended_of, lines_of, end_of}
 use Rattle.card_kept.proofs.Stays as stays
 use Rattle.card_kept.proofs.Steps.{Alive, went}
+use Rattle.std.specs.Prelude.{Err, Ok, Some}
 
 -- a run over pieces and a rest is accepted
 abbrev pub EndsAccepted : Running → List (List ℕ) → List ℕ → Accepted → Type 0
-EndsAccepted st ps rest a = answer_of (end_of (lines_of st ps) rest) ≡ accepted a
+EndsAccepted st ps rest a = answer_of (end_of (lines_of st ps) rest) ≡ Some (Ok a)
 
 -- bytes without a line end are refused, at each stage
 unended_refused : (s : Stage) (st : Running) → st.stage ≡ s → Alive (unended_at s st) → ⊥
@@ -35,10 +35,10 @@ unended_refused Closed st q alive = alive _ refl
 unended_refused (Refused x) st q alive = alive x q
 
 -- an accepted answer is no refusal
-answer_alive : (st : Running) (a : Accepted) → answer_of st ≡ accepted a → Alive st
+answer_alive : (st : Running) (a : Accepted) → answer_of st ≡ Some (Ok a) → Alive st
 unfolding answer_at
 answer_alive st a h x q =
-    let s : answer_of st ≡ refused x = ap (λ s. answer_at s st) q in
+    let s : answer_of st ≡ Some (Err x) = ap (λ s. answer_at s st) q in
     let z : ◌≡◌ {A = ℕ} 0 1 = cc in
     omega arith
 

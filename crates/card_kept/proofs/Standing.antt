@@ -1,5 +1,6 @@
 -- How far a run has come: it counts its records, and goes on below a million of them, since NSEQ has six digits and is the record's number.
 -- By cases on the stage, and on what the record reads as.
+use Rattle.std.specs.Prelude.{Ok, Err}
 use Prim.Native.Nat.{ℕ, suc, ◌+◌, ◌^◌, ◌≤◌, ◌<◌}
 use mathlib.Core.Path.{◌≡◌, refl, sym, subst}
 use mathlib.Core.List.{List, [], ◌∷◌}
@@ -9,9 +10,7 @@ use native.Mathlib.Omega.{arith}
 use lib.ListN.{length}
 use lib.Dec.{eqb}
 use borrow.Author.Tests.{eqb-true}
-use Rattle.refusal.specs.declared.Fault.{Fault}
 use Rattle.edition.specs.Known.{edition_fault}
-use Rattle.refusal.specs.declared.Fault.TheVariants.{Nothing, At}
 use Rattle.refusal.specs.Rules.{Rule, first_broken, all_hold}
 use Rattle.refusal.proofs.Rules.{all_hold_lem}
 use Rattle.text.proofs.Alphabets.{both_left, both_right}
@@ -42,6 +41,7 @@ use Rattle.card_step.specs.Behind.{behind}
 use Rattle.card_step.specs.Step.{behind_or_refused, judged_of, took_at}
 use Rattle.card_file.specs.Feeding.{fed_of, fed_all}
 use Rattle.card_kept.proofs.Adjustments.{either_way}
+use Rattle.refusal.specs.Fault.{Judged, nothing}
 
 -- n records have come, and there is room for one more
 pub record Reached (n : ℕ) (st : Running) : Type 0 where
@@ -64,9 +64,9 @@ Stands k n st = StandsAt k n st.stage st
 pub opened : (edition : ℕ) → Stands 0 0 (open_of edition)
 opened edition = by (edition_fault edition)
   where
-    by : (f : Fault) → StandsAt 0 0 (open_at f) (open_of edition)
-    by Nothing = record { counts = refl; room = omega arith }
-    by (At cause column) = (omega arith, omega arith)
+    by : (f : Judged) → StandsAt 0 0 (open_at f) (open_of edition)
+    by (Ok none) = record { counts = refl; room = omega arith }
+    by (Err fault) = (omega arith, omega arith)
 
 module _ (st : Running) (n : ℕ) (reached : Reached n st) where
   -- the next number is one more
@@ -74,7 +74,7 @@ module _ (st : Running) (n : ℕ) (reached : Reached n st) where
   next_number_lem = omega arith
 
   -- where the rules hold, among them that NSEQ is the next number, there is room for one more
-  room_left : (first : Rule) (column nseq : ℕ) (rest : List Rule) → nseq < 10 ^ 6 → first_broken (first ∷ nseq_rule st column nseq ∷ rest) ≡ Nothing →
+  room_left : (first : Rule) (column nseq : ℕ) (rest : List Rule) → nseq < 10 ^ 6 → first_broken (first ∷ nseq_rule st column nseq ∷ rest) ≡ nothing →
       suc n ≤ 999_999
   unfolding all_hold
   room_left first column nseq rest below e =
@@ -84,12 +84,12 @@ module _ (st : Running) (n : ℕ) (reached : Reached n st) where
       omega (arith, next_number_lem)
 
   -- behind a record that keeps the rules
-  kept : (k : ℕ) (r : List ℕ) (reading : Reading) → Says st.edition r reading → first_broken (rules_of st reading) ≡ Nothing →
+  kept : (k : ℕ) (r : List ℕ) (reading : Reading) → Says st.edition r reading → first_broken (rules_of st reading) ≡ nothing →
       Stands k (suc n) (behind st reading)
   unfolding all_hold rules_of joined_at behind
   kept k r unknown s e = absurd (false≢true (all_hold_lem (rules_of st unknown) e))
-  kept k r (faulty kind cause column) s e =
-      absurd (false≢true (both_right (placed st.stage kind) false (all_hold_lem (rules_of st (faulty kind cause column)) e)))
+  kept k r (faulty kind fault) s e =
+      absurd (false≢true (both_right (placed st.stage kind) false (all_hold_lem (rules_of st (faulty kind fault)) e)))
   kept k r (a0 x) s e = record { counts = next_number_lem; room = room_left _ 70 x.nseq _ (rw s.1 (a0_below r).nseq) e }
   kept k r (l0 x) s e = record { counts = next_number_lem; room = room_left _ 13 x.nseq _ (rw s.1 (l0_below r).nseq) e }
   kept k r (cv x) s e = record { counts = next_number_lem; room = room_left _ 194 x.nseq _ (rw s.1 (cv_below r).nseq) e }
@@ -109,10 +109,10 @@ module _ (st : Running) (n : ℕ) (reached : Reached n st) where
     unfolding behind_or_refused
     judged r = by (first_broken (rules_of st (reading_of st.edition r))) refl
       where
-        by : (fault : Fault) → first_broken (rules_of st (reading_of st.edition r)) ≡ fault →
+        by : (fault : Judged) → first_broken (rules_of st (reading_of st.edition r)) ≡ fault →
             Stands k (suc n) (behind_or_refused st (reading_of st.edition r) fault)
-        by Nothing e = kept k r (reading_of st.edition r) (says st.edition r refl) e
-        by (At cause column) e = refused_next
+        by (Ok none) e = kept k r (reading_of st.edition r) (says st.edition r refl) e
+        by (Err fault) e = refused_next
 
 -- one record more
 pub fed : (k n : ℕ) (st : Running) (r : List ℕ) → k ≤ suc n → Stands k n st → Stands k (suc n) (fed_of st r)

@@ -4,7 +4,6 @@ use mathlib.Core.Path.{◌≡◌, refl, ◌∙◌, ap}
 use mathlib.Core.List.{List, [], ◌∷◌}
 use mathlib.Core.Bool.{Bool, true, false, cond}
 use Rattle.refusal.specs.declared.Cause.{Cause}
-use Rattle.refusal.specs.declared.Fault.TheVariants.{At}
 use Rattle.refusal.specs.declared.Refusal.{Refusal}
 use Rattle.refusal.specs.Nowhere.{nowhere}
 use Rattle.edition.specs.Known.{edition_fault}
@@ -13,19 +12,20 @@ use Rattle.card_record.specs.Reading.{reading_of}
 use Rattle.card_run.specs.declared.stage.Stage.{Stage}
 use Rattle.card_run.specs.declared.stage.Stage.TheVariants.{Start, BetweenBatches, InBatch, Ended, Closed, Refused}
 use Rattle.card_run.specs.declared.running.Running.{Running}
-use Rattle.card_run.specs.declared.answer.CardAnswer.TheVariants.{Refused as refused}
 use Rattle.card_run.specs.Running.{open_at, open_stage, closed_at, closed_of, late_at}
 use Rattle.card_step.specs.Step.{took_at}
 use Rattle.card_file.specs.Feeding.{fed_of, fed_all}
 use Rattle.card_run.specs.Answer.{answer_at, answer_of}
 use Rattle.card_file.specs.CardFile.{unended_at, unended_of, line_of, lines_of, end_of, ran_of}
+use Rattle.refusal.specs.Fault.{at}
+use Rattle.std.specs.Prelude.{Err, Some}
 
 -- an answer that is a refusal is the stage's
-pub stage_of_lem : (st : Running) (x : Refusal) → answer_of st ≡ refused x → st.stage ≡ Refused x
+pub stage_of_lem : (st : Running) (x : Refusal) → answer_of st ≡ Some (Err x) → st.stage ≡ Refused x
 unfolding answer_at
 stage_of_lem st x = by st.stage
   where
-    by : (s : Stage) → answer_at s st ≡ refused x → s ≡ Refused x
+    by : (s : Stage) → answer_at s st ≡ Some (Err x) → s ≡ Refused x
     by Start e = cc
     by BetweenBatches e = cc
     by InBatch e = cc
@@ -34,12 +34,12 @@ stage_of_lem st x = by st.stage
     by (Refused y) e = cc
 
 -- and the other way round
-pub answer_of_lem : (st : Running) (x : Refusal) → st.stage ≡ Refused x → answer_of st ≡ refused x
+pub answer_of_lem : (st : Running) (x : Refusal) → st.stage ≡ Refused x → answer_of st ≡ Some (Err x)
 unfolding answer_at
 answer_of_lem st x e = ap (λ s. answer_at s st) e
 
 -- an edition with a fault is refused from the start
-pub edition_refused : (edition : ℕ) {cause : Cause} {column : ℕ} → edition_fault edition ≡ At cause column → open_stage edition ≡ Refused (nowhere cause)
+pub edition_refused : (edition : ℕ) {cause : Cause} {column : ℕ} → edition_fault edition ≡ at cause column → open_stage edition ≡ Refused (nowhere cause)
 edition_refused edition e = ap open_at e
 
 module _ (x : Refusal) where

@@ -1,10 +1,9 @@
 -- One record more: a run goes on exactly where the record is of a kind that may stand there, right, and its joined rules hold. By the stage, and by what the record reads as.
+use Rattle.std.specs.Prelude.{Ok, Err}
 use Prim.Native.Nat.{ℕ}
 use mathlib.Core.Path.{◌≡◌, refl, ◌∙◌, ap, subst}
 use mathlib.Core.List.{List, ◌∷◌}
 use mathlib.Core.Bool.{true, false, ◌&&◌, false≢true}
-use Rattle.refusal.specs.declared.Fault.{Fault}
-use Rattle.refusal.specs.declared.Fault.TheVariants.{Nothing, At}
 use Rattle.refusal.specs.declared.Refusal.{Refusal}
 use Rattle.refusal.specs.Rules.{first_broken, all_hold}
 use Rattle.refusal.proofs.Rules.{all_hold_lem, none_broken}
@@ -30,6 +29,7 @@ use Rattle.card_step.specs.Rules.{place_rule, joined_at, rules_of}
 use Rattle.card_step.specs.Behind.{behind}
 use Rattle.card_step.specs.Step.{behind_or_refused, judged_of, took_at, took_of}
 use Rattle.card_file.specs.Feeding.{fed_of}
+use Rattle.refusal.specs.Fault.{Judged}
 
 -- a run that is not refused
 abbrev pub Alive : Running → Type 0
@@ -101,7 +101,7 @@ module _ (st : Running) (r : List ℕ) where
   by_reading : (reading : Reading) → reading_of st.edition r ≡ reading → all_hold (rules_of st reading) ≡ true → Went st r
   unfolding rules_of all_hold right_reading
   by_reading unknown e h = absurd (false≢true h)
-  by_reading (faulty kind cause column) e h = absurd (false≢true (both_right (placed st.stage kind) false h))
+  by_reading (faulty kind fault) e h = absurd (false≢true (both_right (placed st.stage kind) false h))
   by_reading (a0 n) e h =
       let is = says st.edition r e in
       went_as A0 is.0 (subst (λ n. placed st.stage A0 && all_hold (joined_at st (a0 n)) ≡ true) is.1 h)
@@ -121,11 +121,11 @@ module _ (st : Running) (r : List ℕ) where
       let is = says st.edition r e in
       went_as A9 is.0 (subst (λ n. placed st.stage A9 && all_hold (joined_at st (a9 n)) ≡ true) is.1 h)
 
-  by_fault : (reading : Reading) (fault : Fault) → reading_of st.edition r ≡ reading → first_broken (rules_of st reading) ≡ fault →
+  by_fault : (reading : Reading) (fault : Judged) → reading_of st.edition r ≡ reading → first_broken (rules_of st reading) ≡ fault →
       Alive (behind_or_refused st reading fault) → Went st r
   unfolding behind_or_refused
-  by_fault reading Nothing e f alive = by_reading reading e (all_hold_lem (rules_of st reading) f)
-  by_fault reading (At cause column) e f alive = absurd (alive _ refl)
+  by_fault reading (Ok none) e f alive = by_reading reading e (all_hold_lem (rules_of st reading) f)
+  by_fault reading (Err fault) e f alive = absurd (alive _ refl)
 
   judged : (reading : Reading) → reading_of st.edition r ≡ reading → Alive (judged_of st reading) → Went st r
   judged reading e alive = by_fault reading (first_broken (rules_of st reading)) e refl alive

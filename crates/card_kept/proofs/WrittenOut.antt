@@ -11,7 +11,6 @@ use Rattle.text.specs.Part.{positions}
 use Rattle.totals.specs.TwoSets.{sets_of}
 use Rattle.card_record.specs.declared.kind.Kind.{Kind}
 use Rattle.card_record.specs.declared.kind.Kind.TheVariants.{A0, L0, Cv, Aj, L9, A9}
-use Rattle.card_record.specs.declared.kind.KindFound.TheVariants.{Known}
 use Rattle.card_record.specs.Kind.{kind_of}
 use Rattle.card_run.specs.declared.running.Running.{Running}
 use Rattle.card_run.specs.Running.{numbers_of}
@@ -25,6 +24,7 @@ use Rattle.card_kept.proofs.RecordsKept.{name_of}
 use Rattle.card_kept.proofs.Transactions.{same_batch, picked_adjusted, added_row, taken_row}
 use Rattle.card_kept.proofs.TwoSets.{same_sets, picked_totals}
 use Rattle.card_kept.proofs.PlainSteps.{same_at, behind_one, behind_plain}
+use Rattle.std.specs.Prelude.{Some}
 
 -- a state by its parts, with all transactions and those of the open batch; that of records is one of these
 abbrev written_out : ℕ → Stage → ℕ → ℕ → ℕ → ℕ → List Transaction → List Transaction → Running
@@ -112,12 +112,12 @@ one_written edition s {d} {m} {n} {b} ts us t =
 
 -- behind a record of each kind: a sale and an adjustment are a transaction more, any other is none, and behind L0 the batch has none at all
 grown_is : (edition : ℕ) (seen : List (List ℕ)) (r : List ℕ) (kind : Kind) →
-    grown edition seen r (ascii (name_of kind)) (stage_behind (stage_after seen) (Known kind)) ≡ behind_plain kind (plain_state edition seen) r
+    grown edition seen r (ascii (name_of kind)) (stage_behind (stage_after seen) (Some kind)) ≡ behind_plain kind (plain_state edition seen) r
 unfolding same_bytes picked sum_over
 grown_is edition seen r kind = by kind (append-nil (transactions_in seen)) (append-nil (transactions_in (since_header seen)))
   where
     by : (kind : Kind) → transactions_in seen ++ [] ≡ transactions_in seen → transactions_in (since_header seen) ++ [] ≡ transactions_in (since_header seen) →
-        grown edition seen r (ascii (name_of kind)) (stage_behind (stage_after seen) (Known kind)) ≡ behind_plain kind (plain_state edition seen) r
+        grown edition seen r (ascii (name_of kind)) (stage_behind (stage_after seen) (Some kind)) ≡ behind_plain kind (plain_state edition seen) r
     by A0 all batch = same_written edition refl refl refl refl refl all batch
     by L0 all batch = same_written edition {us = []} {us' = []} refl refl refl refl refl all refl
     by Cv all batch = one_written edition (stage_after seen) (transactions_in seen) (transactions_in (since_header seen)) (sale r)
@@ -126,7 +126,7 @@ grown_is edition seen r kind = by kind (append-nil (transactions_in seen)) (appe
     by A9 all batch = same_written edition refl refl refl refl refl all batch
 
 -- so one record more, of a kind, makes of the state what it makes of the run
-pub one_more : (edition : ℕ) (seen : List (List ℕ)) (r : List ℕ) (kind : Kind) → kind_of r ≡ Known kind → positions 1 2 r ≡ ascii (name_of kind) →
+pub one_more : (edition : ℕ) (seen : List (List ℕ)) (r : List ℕ) (kind : Kind) → kind_of r ≡ Some kind → positions 1 2 r ≡ ascii (name_of kind) →
     behind_plain kind (plain_state edition seen) r ≡ plain_state edition (seen ++ (r ∷ []))
 one_more edition seen r kind known named =
     sym (is_grown edition seen r ∙ ap₂ (λ name found. grown edition seen r name (stage_behind (stage_after seen) found)) named known ∙ grown_is edition seen r kind)

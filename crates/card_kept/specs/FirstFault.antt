@@ -1,12 +1,11 @@
 -- THE FIRST FAULT: the rules of a card file in one order, of which a refusal is the first that is broken.
-use Rattle.std.specs.Prelude.{ℕ, suc, ◌≡◌, ◌↔◌, List, [], ◌∷◌, Bool, true, false, not, length}
+use Rattle.card_record.specs.declared.kind.Kind.{Kind}
+use Rattle.std.specs.Prelude.{ℕ, suc, ◌≡◌, ◌↔◌, List, [], ◌∷◌, Bool, true, false, not, length, None, Option, Some}
 use Rattle.refusal.specs.declared.Cause.TheVariants.{NoLineEnd, KindUnknown, EndsTooEarly, BytesAfterTheEnd}
 use Rattle.refusal.specs.declared.Refusal.{Refusal}
 use Rattle.refusal.specs.Rules.{Rule, rule_at, all_hold, FirstBroken}
 use Rattle.lines.specs.Lines.{ends_in_cr, without_last}
 use Rattle.first_fault.specs.InTurn.{Next, piece, rest, RulesBehind, FirstFault, NoFault}
-use Rattle.card_record.specs.declared.kind.KindFound.{KindFound}
-use Rattle.card_record.specs.declared.kind.KindFound.TheVariants.{Known, Unknown}
 use Rattle.card_record.specs.Kind.{kind_of}
 use Rattle.card_record.specs.Reading.{kind_rules, right_reading}
 use Rattle.card_run.specs.declared.stage.Stage.{Stage}
@@ -34,14 +33,14 @@ abbrev pub end_rule : Running → Rule
 end_rule st = rule_at BytesAfterTheEnd 0 (not (ended st.stage))
 
 -- 4, "record kind unknown", at the "column of the kind"
-abbrev pub kind_rule : KindFound → Rule
-kind_rule (Known kind) = rule_at KindUnknown 1 true
-kind_rule Unknown = rule_at KindUnknown 1 false
+abbrev pub kind_rule : Option Kind → Rule
+kind_rule (Some kind) = rule_at KindUnknown 1 true
+kind_rule None = rule_at KindUnknown 1 false
 
 -- of a record of a kind: 5, then 6 and "single fields by position (7 before 8 in each), then the joined rules"
-abbrev pub rules_as : KindFound → Running → List ℕ → List Rule
-rules_as (Known kind) st r = placed_rules st kind (kind_rules kind st.edition r) (right_reading kind r)
-rules_as Unknown st r = []
+abbrev pub rules_as : Option Kind → Running → List ℕ → List Rule
+rules_as (Some kind) st r = placed_rules st kind (kind_rules kind st.edition r) (right_reading kind r)
+rules_as None st r = []
 
 abbrev pub rules_from_kind : Running → List ℕ → List Rule
 rules_from_kind st r = kind_rule (kind_of r) ∷ rules_as (kind_of r) st r

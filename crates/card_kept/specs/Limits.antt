@@ -1,5 +1,5 @@
 -- WHERE A FIELD IS TOO SHORT: "A millionth record is refused by 9, unless an earlier rule refuses it"; "A sum too large for its field equals none".
-use Rattle.std.specs.Prelude.{ℕ, suc, ◌+◌, ◌^◌, ◌≤◌, ◌<◌, ◌≡◌, List, [], ◌∷◌, ◌++◌, true, length, eqb}
+use Rattle.std.specs.Prelude.{ℕ, suc, ◌+◌, ◌^◌, ◌≤◌, ◌<◌, ◌≡◌, List, [], ◌∷◌, ◌++◌, true, length, eqb, Some}
 use Rattle.refusal.specs.declared.Cause.TheVariants.{NoLineEnd, SequenceWrong, TrailerDisagrees}
 use Rattle.refusal.specs.declared.Refusal.{Refusal}
 use Rattle.refusal.specs.Rules.{Rule, rule_at, all_hold}
@@ -9,7 +9,6 @@ use Rattle.edition.specs.Known.{current}
 use Rattle.card_frame.specs.L9.{l9_of}
 use Rattle.card_record.specs.declared.kind.Kind.{Kind}
 use Rattle.card_record.specs.declared.kind.Kind.TheVariants.{A0, L0, Cv, Aj, L9, A9}
-use Rattle.card_record.specs.declared.kind.KindFound.TheVariants.{Known}
 use Rattle.card_record.specs.Kind.{kind_of}
 use Rattle.card_record.specs.Reading.{kind_rules}
 use Rattle.card_run.specs.declared.running.Running.{Running}
@@ -24,7 +23,7 @@ use Rattle.card_kept.specs.State.{transactions_in, since_header, plain_state}
 -- the rules of a piece, a record of a kind, that stand before the joined ones: "13, 12, 3, 4, 5, 6, single fields by position"
 abbrev pub before_joined : Running → Kind → List ℕ → List Rule
 before_joined st kind p =
-    end_rule st ∷ rule_at NoLineEnd 0 (ends_in_cr p) ∷ kind_rule (Known kind) ∷ place_rule st kind ∷ kind_rules kind st.edition (without_last p)
+    end_rule st ∷ rule_at NoLineEnd 0 (ends_in_cr p) ∷ kind_rule (Some kind) ∷ place_rule st kind ∷ kind_rules kind st.edition (without_last p)
 
 -- the column of each kind's NSEQ
 abbrev pub nseq_column : Kind → ℕ
@@ -41,7 +40,7 @@ pub record MillionthRecord : Type 0 where
       (refusal : Refusal) × (card_file_row (check_of edition file) ≡ refused_row refusal) × (refusal.«record» ≤ 1_000_000)
   -- and there by 9, at its NSEQ, where the rules before the joined ones hold
   pub by_nine : (edition : ℕ) (file : List ℕ) (earlier : List (List ℕ)) (p : List ℕ) → current edition ≡ true → ComesBehind (rules_behind edition) file earlier p →
-      length earlier ≡ 999_999 → (kind : Kind) → kind_of (without_last p) ≡ Known kind → all_hold (before_joined (plain_state edition (records_in earlier)) kind p) ≡ true →
+      length earlier ≡ 999_999 → (kind : Kind) → kind_of (without_last p) ≡ Some kind → all_hold (before_joined (plain_state edition (records_in earlier)) kind p) ≡ true →
       card_file_row (check_of edition file) ≡ refused_row (record { cause = SequenceWrong; «record» = 1_000_000; column = nseq_column kind })
 
 -- the rules of an L9 that stand before that of its sum: where they hold it is right but for its sum
@@ -57,10 +56,10 @@ in_batch pieces = transactions_in (since_header (records_in pieces))
 -- behind pieces of a file, an L9
 pub record NoSumIsRight (edition : ℕ) (file : List ℕ) (earlier : List (List ℕ)) : Type 0 where
   -- is refused, whatever it says,
-  pub in_any_case : (p : List ℕ) → current edition ≡ true → ComesBehind (rules_behind edition) file earlier p → kind_of (without_last p) ≡ Known L9 →
+  pub in_any_case : (p : List ℕ) → current edition ≡ true → ComesBehind (rules_behind edition) file earlier p → kind_of (without_last p) ≡ Some L9 →
       (refusal : Refusal) × (card_file_row (check_of edition file) ≡ refused_row refusal) × (refusal.«record» ≡ suc (length earlier))
   -- and by 11 at column 9 where it is right but for its sum
-  pub by_eleven : (p : List ℕ) → current edition ≡ true → ComesBehind (rules_behind edition) file earlier p → kind_of (without_last p) ≡ Known L9 →
+  pub by_eleven : (p : List ℕ) → current edition ≡ true → ComesBehind (rules_behind edition) file earlier p → kind_of (without_last p) ≡ Some L9 →
       all_hold (before_sum (plain_state edition (records_in earlier)) p) ≡ true →
       card_file_row (check_of edition file) ≡ refused_row (record { cause = TrailerDisagrees; «record» = suc (length earlier); column = 9 })
 

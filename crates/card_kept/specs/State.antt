@@ -1,5 +1,6 @@
 -- WHAT THE STATE IS behind records that keep the rules, in words of those records alone: all that the rules of what comes next take from it, and the numbers so far.
-use Rattle.std.specs.Prelude.{ℕ, suc, ◌≡◌, Bool, cond, length}
+use Rattle.card_record.specs.declared.kind.Kind.{Kind}
+use Rattle.std.specs.Prelude.{ℕ, suc, ◌≡◌, Bool, cond, length, None, Option, Some}
 use Prim.Native.String.{String}
 use mathlib.Core.List.{List, [], ◌∷◌, ◌++◌, foldl}
 use Rattle.text.specs.Literal.{ascii, same_bytes}
@@ -7,8 +8,6 @@ use Rattle.text.specs.Part.{positions}
 use Rattle.totals.specs.TwoSets.{sets_of}
 use Rattle.first_fault.specs.InTurn.{records_in}
 use Rattle.card_record.specs.declared.kind.Kind.TheVariants.{A0, L0, Cv, Aj, L9, A9}
-use Rattle.card_record.specs.declared.kind.KindFound.{KindFound}
-use Rattle.card_record.specs.declared.kind.KindFound.TheVariants.{Known, Unknown}
 use Rattle.card_record.specs.Kind.{kind_of}
 use Rattle.card_run.specs.declared.batch.OpenBatch.{OpenBatch}
 use Rattle.card_run.specs.declared.running.Running.{Running}
@@ -21,14 +20,14 @@ use Rattle.card_kept.specs.Kept.{Transaction, sale, adjustment, is_forecast, is_
 use Rattle.card_kept.specs.Numbers.{plain_totals, plain_adjusted}
 
 -- the stage behind a record of a kind; a kind that is not known keeps no rule, and leaves the stage as it is
-abbrev pub stage_behind : Stage → KindFound → Stage
-stage_behind stage (Known A0) = BetweenBatches
-stage_behind stage (Known L0) = InBatch
-stage_behind stage (Known Cv) = InBatch
-stage_behind stage (Known Aj) = InBatch
-stage_behind stage (Known L9) = BetweenBatches
-stage_behind stage (Known A9) = Ended
-stage_behind stage Unknown = stage
+abbrev pub stage_behind : Stage → Option Kind → Stage
+stage_behind stage (Some A0) = BetweenBatches
+stage_behind stage (Some L0) = InBatch
+stage_behind stage (Some Cv) = InBatch
+stage_behind stage (Some Aj) = InBatch
+stage_behind stage (Some L9) = BetweenBatches
+stage_behind stage (Some A9) = Ended
+stage_behind stage None = stage
 
 -- so it is the last record's; before any record it is the start
 abbrev pub stage_after : List (List ℕ) → Stage

@@ -11,20 +11,19 @@ use Rattle.pan.proofs.Tests.{by_test}
 use Rattle.lines.specs.Lines.{Lines, cr, cut, rejoined, no_lf, ends_in_cr, without_last, with_cr, finished_in}
 use Rattle.lines.proofs.Cuts.{cut_is_cut, cut_is_unique}
 use Rattle.lines.proofs.Ends.{cr_ends, before_last}
-use Rattle.card_record.specs.declared.card_part.CardPart.{CardPart}
-use Rattle.card_record.specs.declared.card_part.CardPart.TheVariants.{From, Nowhere}
 use Rattle.card_record.specs.CardPart.{card_part, card_from}
 use Rattle.card_mask.specs.Masked.{masked_at, masked_record, masked_piece, masked_file}
 use Rattle.card_mask.proofs.Pieces.{no_record}
 use Rattle.card_mask.proofs.InChunks.{finished_part}
 use Rattle.card_mask.proofs.Clear.{pieces_clear}
 use Rattle.card_mask.proofs.MaskedCard.{masked_card}
+use Rattle.std.specs.Prelude.{None, Option, Some}
 
 -- a record with a card, and every record
-card_again : (k : ℕ) (r : List ℕ) → card_part r ≡ From k → masked_record (masked_at (From k) r) ≡ masked_at (From k) r
+card_again : (k : ℕ) (r : List ℕ) → card_part r ≡ Some k → masked_record (masked_at (Some k) r) ≡ masked_at (Some k) r
 unfolding masked_at
 card_again k r has =
-    let m = masked_at (From k) r in
+    let m = masked_at (Some k) r in
     let is = masked_card k r has in
     ap (λ part. masked_at part m) is.has_too ∙
     ap₂ ◌++◌ (sym is.outside.before) (ap₂ ◌++◌ (ap masked is.card ∙ masked_again (card_from k r)) (sym is.outside.behind))
@@ -33,9 +32,9 @@ pub record_again : (r : List ℕ) → masked_record (masked_record r) ≡ masked
 unfolding masked_at
 record_again r = by (card_part r) refl
   where
-    by : (part : CardPart) → card_part r ≡ part → masked_record (masked_at part r) ≡ masked_at part r
-    by Nowhere e = ap (λ part. masked_at part r) e
-    by (From k) e = card_again k r e
+    by : (part : Option ℕ) → card_part r ≡ part → masked_record (masked_at part r) ≡ masked_at part r
+    by None e = ap (λ part. masked_at part r) e
+    by (Some k) e = card_again k r e
 
 piece_again : (p : List ℕ) → masked_piece (masked_piece p) ≡ masked_piece p
 piece_again p =

@@ -12,11 +12,10 @@ use Rattle.pan.proofs.Tests.{by_test}
 use Rattle.lines.specs.Lines.{lf, no_lf, all_no_lf, ends_in_cr, without_last}
 use Rattle.lines.proofs.Cuts.{with_cr_clear}
 use Rattle.lines.proofs.Ends.{record_and_cr}
-use Rattle.card_record.specs.declared.card_part.CardPart.{CardPart}
-use Rattle.card_record.specs.declared.card_part.CardPart.TheVariants.{From, Nowhere}
 use Rattle.card_record.specs.CardPart.{card_part, card_from}
 use Rattle.card_mask.specs.Masked.{masked_at, masked_record, masked_piece}
 use Rattle.card_mask.proofs.MaskedCard.{around_card}
+use Rattle.std.specs.Prelude.{None, Option, Some}
 
 -- bytes in a row
 clear_row : (s t : List ℕ) → no_lf (s ++ t) ≡ no_lf s && no_lf t
@@ -39,10 +38,10 @@ stars_clear p (b ∷ s) e = one (p 0) (eqb b lf) refl e (stars_clear (λ i. p (s
     one true false is e on = on e
     one false false is e on = rw is (on e)
 
-record_clear : (part : CardPart) (r : List ℕ) → no_lf r ≡ true → no_lf (masked_at part r) ≡ true
+record_clear : (part : Option ℕ) (r : List ℕ) → no_lf r ≡ true → no_lf (masked_at part r) ≡ true
 unfolding masked_at
-record_clear Nowhere r e = e
-record_clear (From k) r e =
+record_clear None r e = e
+record_clear (Some k) r e =
     let card = card_from k r in
     let behind = drop (k + 19) r in
     let all : no_lf (take k r) && (no_lf card && no_lf behind) ≡ true =

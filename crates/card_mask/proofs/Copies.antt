@@ -3,18 +3,18 @@ use Prim.Native.Nat.{ℕ, suc, ◌+◌, ◌-◌, ◌≤◌}
 use mathlib.Core.Path.{◌≡◌, refl, sym, ◌∙◌, ap, ap₂}
 use mathlib.Core.List.{List, [], ◌∷◌, ◌++◌, append_assoc}
 use native.Mathlib.Omega.{arith}
-use lib.ListN.{length, take, drop, length-append, length-drop, take-append-drop, drop_of_length-le}
+use lib.ListN.{length, take, drop, length-append, length-drop, take-append-drop}
 use lib.Seq.{length-take-le, take_at, drop_at, drop-drop}
-use Rattle.lines.specs.declared.Found.TheVariants.{At, Nowhere}
-use Rattle.lines.specs.Lines.{lf, cut, rejoined, finished_in, next_lf}
+use Rattle.lines.specs.Lines.{lf, rejoined, finished_in, next_lf}
 use Rattle.lines.proofs.Search.{split}
 use Rattle.lines.proofs.Cuts.{cut_at, at_inside, cut_nowhere}
 use Rattle.lines.proofs.Finished.{first_finished}
 use Rattle.card_mask.specs.Masked.{masked_piece, masked_file, MasksLines}
 use Rattle.card_mask.proofs.Pieces.{piece_length}
+use Rattle.std.specs.Prelude.{None, Some}
 
 -- at an LF that was found, the bytes go on with it
-at_lf : (at : ℕ) (s : List ℕ) (e : ℕ) → next_lf at s ≡ At e → drop e s ≡ lf ∷ drop (e + 1) s
+at_lf : (at : ℕ) (s : List ℕ) (e : ℕ) → next_lf at s ≡ Some e → drop e s ≡ lf ∷ drop (e + 1) s
 at_lf at s e q =
     let w = split at (drop at s) e q in
     let d = drop at s in
@@ -27,19 +27,15 @@ at_lf at s e q =
     ap (λ (l : List ℕ). lf ∷ l) (drop-drop (suc w.k) at s ∙ ap (λ (n : ℕ). drop n s) on)
 
 -- the masked form of what is left begins with the masked piece
-first_masked : (at : ℕ) (s : List ℕ) (e : ℕ) → next_lf at s ≡ At e →
+first_masked : (at : ℕ) (s : List ℕ) (e : ℕ) → next_lf at s ≡ Some e →
     masked_file (drop at s) ≡ masked_piece (take (e - at) (drop at s)) ++ (lf ∷ masked_file (drop (e + 1) s))
 unfolding rejoined
 first_masked at s e q = rw (cut_at at s e q)
 
--- where nothing of what is left is masked: there is no LF, or no byte
-pub none_left : (at : ℕ) (s : List ℕ) → next_lf at s ≡ Nowhere → masked_file (drop at s) ≡ drop at s
+-- where nothing of what is left is masked: there is no LF
+pub none_left : (at : ℕ) (s : List ℕ) → next_lf at s ≡ None → masked_file (drop at s) ≡ drop at s
 unfolding rejoined
 none_left at s q = rw (cut_nowhere at s q)
-
-pub nothing_left : (at : ℕ) (s : List ℕ) → length s ≤ at → masked_file (drop at s) ≡ drop at s
-unfolding rejoined cut
-nothing_left at s h = rw (drop_of_length-le s h)
 
 -- bytes that are masked from the front: before a place they are done, and from there on they are as they were
 pub record Sofar (bytes₀ : List ℕ) (at : ℕ) (bytes : List ℕ) : Type 0 where
@@ -52,7 +48,7 @@ pub begun : (bytes : List ℕ) → Sofar bytes 0 bytes
 begun bytes = record { inside = omega arith; same_length = refl; done = refl; counted = omega arith }
 
 -- with the piece before an LF masked, and the LF passed
-pub passed : (bytes₀ : List ℕ) (at e : ℕ) (bytes : List ℕ) → Sofar bytes₀ at bytes → next_lf at bytes ≡ At e →
+pub passed : (bytes₀ : List ℕ) (at e : ℕ) (bytes : List ℕ) → Sofar bytes₀ at bytes → next_lf at bytes ≡ Some e →
     Sofar bytes₀ (e + 1) (take at bytes ++ (masked_piece (take (e - at) (drop at bytes)) ++ drop e bytes))
 passed bytes₀ at e bytes w q =
     let i = at_inside at bytes e q in

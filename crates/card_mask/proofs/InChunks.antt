@@ -15,13 +15,13 @@ use Rattle.card_run.specs.declared.stage.Stage.{Stage}
 use Rattle.card_run.specs.declared.stage.Stage.TheVariants.{Start, BetweenBatches, InBatch, Ended, Closed, Refused}
 use Rattle.card_run.specs.declared.running.Running.{Running}
 use Rattle.card_run.specs.declared.answer.Accepted.{Accepted as Numbers}
-use Rattle.card_run.specs.declared.answer.CardAnswer.TheVariants.{Accepted}
 use Rattle.card_run.specs.Running.{open_of, late_at}
 use Rattle.card_run.specs.Answer.{answer_at, answer_of}
 use Rattle.card_file.specs.CardFile.{unended_at, lines_of, end_of, check_of}
 use Rattle.card_mask.specs.Masked.{masked_piece, masked_file}
 use Rattle.card_mask.specs.InChunks.{Copied, nothing_copied, copied_over}
 use Rattle.card_mask.proofs.Pieces.{piece_length}
+use Rattle.std.specs.Prelude.{Ok, Some}
 
 -- masking keeps the length of lines and of what stands behind them
 pub lines_length : (ps : List (List ℕ)) (rest : List ℕ) → length (rejoined (map masked_piece ps) rest) ≡ length (rejoined ps rest)
@@ -73,7 +73,7 @@ all_chunks a (c ∷ cs) =
     ap (λ so. foldl copied_over so cs) (one_chunk a c) ∙ all_chunks (a ++ c) cs ∙ ap (λ s. copy_of (cut s)) (append_assoc a c (joined_chunks cs))
 
 -- an accepted file leaves no byte behind its last LF: bytes without a line end are refused
-refused_there : (st : Running) (a : Numbers) (stage : Stage) → st.stage ≡ stage → answer_of (unended_at stage st) ≡ Accepted a → ⊥
+refused_there : (st : Running) (a : Numbers) (stage : Stage) → st.stage ≡ stage → answer_of (unended_at stage st) ≡ Some (Ok a) → ⊥
 unfolding unended_at answer_at late_at
 refused_there st a Start e q = absurd (let z : ◌≡◌ {A = ℕ} 0 1 = cc in omega arith)
 refused_there st a BetweenBatches e q = absurd (let z : ◌≡◌ {A = ℕ} 0 1 = cc in omega arith)
@@ -81,10 +81,10 @@ refused_there st a InBatch e q = absurd (let z : ◌≡◌ {A = ℕ} 0 1 = cc in
 refused_there st a Ended e q = absurd (let z : ◌≡◌ {A = ℕ} 0 1 = cc in omega arith)
 refused_there st a Closed e q = absurd (let z : ◌≡◌ {A = ℕ} 0 1 = cc in omega arith)
 refused_there st a (Refused r) e q =
-    let refused : answer_at (Refused r) st ≡ Accepted a = ap (λ s. answer_at s st) (sym e) ∙ q in
+    let refused : answer_at (Refused r) st ≡ Some (Ok a) = ap (λ s. answer_at s st) (sym e) ∙ q in
     absurd (let z : ◌≡◌ {A = ℕ} 0 1 = cc in omega arith)
 
-nothing_waits : (st : Running) (a : Numbers) (rest : List ℕ) → answer_of (end_of st rest) ≡ Accepted a → rest ≡ []
+nothing_waits : (st : Running) (a : Numbers) (rest : List ℕ) → answer_of (end_of st rest) ≡ Some (Ok a) → rest ≡ []
 unfolding end_of
 nothing_waits st a [] q = refl
 nothing_waits st a (b ∷ s) q = absurd (refused_there st a st.stage refl q)
@@ -107,7 +107,7 @@ unfolding copy_of cut rejoined
 rest_waits chunks = ap (λ (c : Copied). c.waiting) (all_chunks [] chunks)
 
 -- and of an accepted file nothing waits, so what was written is all of it
-pub accepted_copy_written : (edition : ℕ) (chunks : List (List ℕ)) (a : Numbers) → check_of edition (joined_chunks chunks) ≡ Accepted a →
+pub accepted_copy_written : (edition : ℕ) (chunks : List (List ℕ)) (a : Numbers) → check_of edition (joined_chunks chunks) ≡ Some (Ok a) →
     foldl copied_over nothing_copied chunks ≡ record { written = masked_file (joined_chunks chunks); waiting = [] }
 unfolding copy_of cut rejoined
 accepted_copy_written edition chunks a q =

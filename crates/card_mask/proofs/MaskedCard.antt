@@ -10,11 +10,11 @@ use Rattle.pan.specs.CardField.{well_formed}
 use Rattle.pan.specs.Masked.{masked}
 use Rattle.pan.proofs.Masking.{masked_length, masked_unformed}
 use Rattle.card_content.specs.EqualOutside.{EqualOutside}
-use Rattle.card_record.specs.declared.card_part.CardPart.TheVariants.{From}
 use Rattle.card_record.specs.CardPart.{card_part, card_from}
 use Rattle.card_record.proofs.CardParts.{card_inside}
 use Rattle.card_record.proofs.LawOfReading.{same_place}
 use Rattle.card_mask.specs.Masked.{masked_at}
+use Rattle.std.specs.Prelude.{Some}
 
 -- a record is its card and what stands around it
 pub around_card : (k : ℕ) (r : List ℕ) → r ≡ take k r ++ (card_from k r ++ drop (k + 19) r)
@@ -28,10 +28,10 @@ around_card k r =
 -- around the card it is the record, and the card, at the same place, is the record's card masked
 pub record MaskedCard (k : ℕ) (r m : List ℕ) : Type 0 where
   pub outside : EqualOutside k (k + 19) r m
-  pub has_too : card_part m ≡ From k
+  pub has_too : card_part m ≡ Some k
   pub card : card_from k m ≡ masked (card_from k r)
 
-pub masked_card : (k : ℕ) (r : List ℕ) → card_part r ≡ From k → MaskedCard k r (masked_at (From k) r)
+pub masked_card : (k : ℕ) (r : List ℕ) → card_part r ≡ Some k → MaskedCard k r (masked_at (Some k) r)
 unfolding masked_at
 masked_card k r has =
     let inside = card_inside k r has in
@@ -54,6 +54,6 @@ masked_card k r has =
     }
 
 -- a card that is not well formed has no hidden place, so the record stays as it is
-pub unformed_card : (k : ℕ) (r : List ℕ) → well_formed (card_from k r) ≡ false → masked_at (From k) r ≡ r
+pub unformed_card : (k : ℕ) (r : List ℕ) → well_formed (card_from k r) ≡ false → masked_at (Some k) r ≡ r
 unfolding masked_at
 unformed_card k r e = ap (λ (card : List ℕ). take k r ++ (card ++ drop (k + 19) r)) (masked_unformed (card_from k r) e) ∙ sym (around_card k r)

@@ -12,17 +12,16 @@ use Rattle.pan.proofs.Masking.{masked_length}
 use Rattle.pan.proofs.Tests.{by_test}
 use Rattle.lines.specs.Lines.{cr, ends_in_cr, without_last, with_cr}
 use Rattle.lines.proofs.Ends.{record_and_cr}
-use Rattle.card_record.specs.declared.card_part.CardPart.{CardPart}
-use Rattle.card_record.specs.declared.card_part.CardPart.TheVariants.{From, Nowhere}
 use Rattle.card_record.specs.CardPart.{card_part, card_from}
 use Rattle.card_record.proofs.CardParts.{card_inside}
 use Rattle.card_mask.specs.Masked.{masked_at, masked_record, masked_piece}
+use Rattle.std.specs.Prelude.{None, Option, Some}
 
 -- a piece that is no record, and a record with no card
 pub no_record : (p : List ℕ) → ends_in_cr p ≡ false → p ≡ masked_piece p
 no_record p e = rw e
 
-pub no_card_lem : (p : List ℕ) → ends_in_cr p ≡ true → card_part (without_last p) ≡ Nowhere → p ≡ masked_piece p
+pub no_card_lem : (p : List ℕ) → ends_in_cr p ≡ true → card_part (without_last p) ≡ None → p ≡ masked_piece p
 unfolding masked_at
 no_card_lem p e n = record_and_cr p e ∙ sym (rw (e, n))
 
@@ -31,7 +30,7 @@ card_there : (r : List ℕ) (k : ℕ) → k + 19 ≤ length r → take ((k + 19)
 card_there r k h = sym (drop_take k (k + 19) (with_cr r) (omega arith)) ∙ ap (drop k) (take-append-le (k + 19) r (cr ∷ []) h)
 
 -- a record with a card: its part is masked, and nothing else
-pub with_card : (p : List ℕ) (k : ℕ) → ends_in_cr p ≡ true → card_part (without_last p) ≡ From k →
+pub with_card : (p : List ℕ) (k : ℕ) → ends_in_cr p ≡ true → card_part (without_last p) ≡ Some k →
     take k p ++ (masked (take ((k + 19) - k) (drop k p)) ++ drop (k + 19) p) ≡ masked_piece p
 unfolding masked_at
 with_card p k e c =
@@ -51,9 +50,9 @@ pub record_length : (r : List ℕ) → length (masked_record r) ≡ length r
 unfolding masked_at
 record_length r = by (card_part r) refl
   where
-    by : (part : CardPart) → card_part r ≡ part → length (masked_at part r) ≡ length r
-    by Nowhere e = refl
-    by (From k) e =
+    by : (part : Option ℕ) → card_part r ≡ part → length (masked_at part r) ≡ length r
+    by None e = refl
+    by (Some k) e =
         let inside = card_inside k r e in
         simp (length-append, masked_length)
         (let a = length-take-le k r (omega arith) in

@@ -1,15 +1,13 @@
 -- The masked copy of a file: "rewritten in the card's part of the copy and nowhere else".
-use Rattle.std.specs.Prelude.{ℕ, ◌+◌, ◌≡◌, List, [], ◌∷◌, ◌++◌, map, cond, take, drop}
+use Rattle.std.specs.Prelude.{ℕ, ◌+◌, ◌≡◌, List, [], ◌∷◌, ◌++◌, map, cond, take, drop, None, Option, Some}
 use Rattle.pan.specs.Masked.{masked}
 use Rattle.lines.specs.Lines.{cr, cut, rejoined, ends_in_cr, without_last, finished_in}
-use Rattle.card_record.specs.declared.card_part.CardPart.{CardPart}
-use Rattle.card_record.specs.declared.card_part.CardPart.TheVariants.{From, Nowhere}
 use Rattle.card_record.specs.CardPart.{card_part, card_from}
 
 -- a record with its card masked, where it has one
-unfoldable pub masked_at : CardPart → List ℕ → List ℕ
-masked_at Nowhere r = r
-masked_at (From k) r = take k r ++ (masked (card_from k r) ++ drop (k + 19) r)
+unfoldable pub masked_at : Option ℕ → List ℕ → List ℕ
+masked_at None r = r
+masked_at (Some k) r = take k r ++ (masked (card_from k r) ++ drop (k + 19) r)
 
 abbrev pub masked_record : List ℕ → List ℕ
 masked_record r = masked_at (card_part r) r

@@ -1,3 +1,2 @@
 pub mod Ended
-pub mod Stated
 pub mod Texts

@@ -1,22 +1,21 @@
--- No text of an outcome has more than 384 bytes, and its words in a list have no more than 511.
+-- No verdict has more than 353 bytes, and no words in a list have more.
 use Prim.Native.Nat.{ℕ, ◌+◌, ◌*◌, ◌≤◌}
 use mathlib.Core.List.{List}
 use native.Mathlib.Omega.{arith}
 use lib.Dec.{lit≤}
 use lib.ListN.{length, length-append}
+use Rattle.std.specs.Prelude.{None, Some, Ok, Err}
 use Rattle.text.specs.Literal.{ascii}
 use Rattle.wording.proofs.Lengths.{line_short, refused_short}
-use Rattle.program.proofs.Sentences.{sentence_short}
 use Rattle.totals.specs.declared.amounts.Totals.{Totals}
 use Rattle.totals.specs.declared.two_sets.TwoSets.{TwoSets}
 use Rattle.card_run.specs.declared.answer.Accepted.{Accepted as Numbers}
-use Rattle.card_run.specs.declared.answer.CardAnswer.TheVariants.{GoingOn, Accepted, Refused}
-use Rattle.card_program.specs.declared.outcome.Outcome.{Outcome}
-use Rattle.card_program.specs.declared.outcome.Outcome.TheVariants.{Answer, Mistake}
+use Rattle.card_run.specs.Answer.{CardAnswer}
 use Rattle.card_program.specs.declared.verdict.Lines.{Lines}
 use Rattle.card_program.specs.declared.verdict.Lines.TheVariants.{Sales, Adjustments}
+use Rattle.card_program.specs.Outcome.{Outcome}
 use Rattle.card_program.specs.Listing.{words_of}
-use Rattle.card_program.specs.Verdict.{led_line, totals_text, sets_text, accepted_text, adjusted_text, outcome_text}
+use Rattle.card_program.specs.Verdict.{led_line, totals_text, sets_text, accepted_text, adjusted_text, verdict_text}
 
 pub totals_short : (word : List ℕ) (t : Totals) → length (totals_text word t) ≤ 4 * length word + 109
 unfolding led_line totals_text
@@ -52,15 +51,14 @@ adjusted_short a =
       line_short (ascii "DEBIT NET") a.debits.net,
     ))
 
-pub outcome_short : (lines : Lines) (outcome : Outcome) → length (outcome_text lines outcome) ≤ 384
-outcome_short lines (Answer GoingOn) = lit≤ tt
-outcome_short Sales (Answer (Accepted numbers)) = omega (arith, accepted_short numbers)
-outcome_short Adjustments (Answer (Accepted numbers)) = omega (arith, adjusted_short numbers)
-outcome_short lines (Answer (Refused refusal)) = omega (arith, refused_short refusal)
-outcome_short lines (Mistake mistake) = omega (arith, sentence_short mistake)
+pub verdict_short : (lines : Lines) (answer : CardAnswer) → length (verdict_text lines answer) ≤ 353
+verdict_short lines None = lit≤ tt
+verdict_short Sales (Some (Ok numbers)) = accepted_short numbers
+verdict_short Adjustments (Some (Ok numbers)) = omega (arith, adjusted_short numbers)
+verdict_short lines (Some (Err refusal)) = omega (arith, refused_short refusal)
 
-pub words_short : (outcome : Outcome) → length (words_of outcome) ≤ 511
-words_short (Answer GoingOn) = lit≤ tt
-words_short (Answer (Accepted numbers)) = omega (arith, accepted_short numbers)
-words_short (Answer (Refused refusal)) = omega (arith, refused_short refusal)
-words_short (Mistake mistake) = lit≤ tt
+pub words_short : (outcome : Outcome) → length (words_of outcome) ≤ 353
+words_short (Ok None) = lit≤ tt
+words_short (Ok (Some (Ok numbers))) = accepted_short numbers
+words_short (Ok (Some (Err refusal))) = omega (arith, refused_short refusal)
+words_short (Err mistake) = lit≤ tt

@@ -1,16 +1,15 @@
 -- What is printed of a card file: "ACCEPTED, RECORDS 5, BATCHES 1", and by document 02 "SALES, GROSS, DISCOUNT, NET for FORECAST and then for SETTLED, eight lines in place of
 -- four, each led by that word"; of its adjustments "CREDITS n, CREDIT NET n, DEBITS n, DEBIT NET n"; or "one line: REFUSED 9 RECORD 3 COLUMN 194".
-use Rattle.std.specs.Prelude.{ℕ, List, [], ◌∷◌, ◌++◌, ℤ, pos}
+use Rattle.std.specs.Prelude.{ℕ, List, [], ◌∷◌, ◌++◌, None, Some, Ok, Err}
 use Rattle.text.specs.Literal.{ascii}
 use Rattle.wording.specs.Line.{line_of, refused_line, joined}
 use Rattle.totals.specs.declared.amounts.Totals.{Totals}
 use Rattle.totals.specs.declared.two_sets.TwoSets.{TwoSets}
 use Rattle.card_run.specs.declared.answer.Accepted.{Accepted as Numbers}
-use Rattle.card_run.specs.declared.answer.CardAnswer.{CardAnswer}
-use Rattle.card_run.specs.declared.answer.CardAnswer.TheVariants.{GoingOn, Accepted, Refused}
-use Rattle.program.specs.Sentence.{sentence_of}
-use Rattle.card_program.specs.declared.outcome.Outcome.{Outcome}
-use Rattle.card_program.specs.declared.outcome.Outcome.TheVariants.{Answer, Mistake}
+use Rattle.card_run.specs.Answer.{CardAnswer}
+use Rattle.files.specs.declared.writing.Standard.{Standard}
+use Rattle.program.specs.Outcome.{told_text, standard_of}
+use Rattle.card_program.specs.Outcome.{Outcome}
 use Rattle.card_program.specs.declared.verdict.Lines.{Lines}
 use Rattle.card_program.specs.declared.verdict.Lines.TheVariants.{Sales, Adjustments}
 
@@ -47,16 +46,14 @@ numbers_text Adjustments numbers = adjusted_text numbers
 
 -- a file that is going on has no verdict
 abbrev pub verdict_text : Lines → CardAnswer → List ℕ
-verdict_text lines GoingOn = []
-verdict_text lines (Accepted numbers) = numbers_text lines numbers
-verdict_text lines (Refused refusal) = refused_line refusal
+verdict_text lines None = []
+verdict_text lines (Some (Ok numbers)) = numbers_text lines numbers
+verdict_text lines (Some (Err refusal)) = refused_line refusal
 
 -- the verdict, or the mistake's sentence
 abbrev pub outcome_text : Lines → Outcome → List ℕ
-outcome_text lines (Answer answer) = verdict_text lines answer
-outcome_text lines (Mistake mistake) = sentence_of mistake
+outcome_text lines = told_text (verdict_text lines)
 
--- standard output is 1, standard error 2
-abbrev pub descriptor_of : Outcome → ℤ
-descriptor_of (Answer answer) = pos 1
-descriptor_of (Mistake mistake) = pos 2
+-- a verdict goes to standard output, a mistake to standard error
+abbrev pub descriptor_of : Outcome → Standard
+descriptor_of = standard_of

@@ -1,40 +1,53 @@
 // What comes of a program's work on a card file.
 ghost use Rattle.std.specs.Prelude.{◌≡◌};
+ghost use Rattle.card_stream.specs.Stream.{taken_of, ended_of, answer_of};
 ghost use Rattle.card_program.specs.Outcome.{is_decided, is_accepted, outcome_at};
 
 use card_run::answer::CardAnswer;
 use card_stream::Stream;
 use files::reading::Got;
-use program::mistake::{Failed, Mistake};
+use program::mistake::Mistake;
+use program::stream;
+use program::stream::Judge;
 
-#[derive(Clone, Copy)]
-pub enum Outcome {
-    Answer(CardAnswer),
-    Mistake(Mistake),
-}
+pub type Outcome = Result<CardAnswer, Mistake>;
 
 // Whether no further byte can change an answer.
 pub fn is_decided(answer: CardAnswer) -> bool
     ensures { result ≡ is_decided answer }
 {
-    match answer {
-        CardAnswer::GoingOn => false,
-        CardAnswer::Accepted(_) => true,
-        CardAnswer::Refused(_) => true,
-    }
+    answer.is_some()
 }
 
 // Whether a file was accepted to its end.
 pub fn is_accepted(outcome: Outcome) -> bool
     ensures { result ≡ is_accepted outcome }
 {
-    match outcome {
-        Outcome::Mistake(_) => false,
-        Outcome::Answer(answer) => match answer {
-            CardAnswer::GoingOn => false,
-            CardAnswer::Accepted(_) => true,
-            CardAnswer::Refused(_) => false,
-        },
+    matches!(outcome, Ok(Some(Ok(_))))
+}
+
+// How a card file takes its chunks.
+pub(crate) struct CardFile;
+
+impl Judge for CardFile {
+    type Stream = Stream;
+
+    ghost taken_of = { taken_of };
+
+    ghost ended_of = { ended_of };
+
+    ghost is_decided = { λ stream. is_decided (answer_of stream) };
+
+    fn taken(stream: Stream, chunk: &[u8]) -> Stream {
+        stream.take(chunk)
+    }
+
+    fn ended(stream: Stream) -> Stream {
+        stream.end()
+    }
+
+    fn decided(stream: Stream) -> bool {
+        is_decided(stream.answer())
     }
 }
 
@@ -42,14 +55,6 @@ pub fn is_accepted(outcome: Outcome) -> bool
 pub fn outcome_at(got: Got, stream: Stream) -> Outcome
     ensures { result ≡ outcome_at got stream }
 {
-    match got {
-        Got::End => Outcome::Answer(stream.end().answer()),
-        Got::Failed(error) => Outcome::Mistake(Mistake::System(Failed::Read, error)),
-        Got::Bytes(_) => {
-            if is_decided(stream.answer()) {
-                return Outcome::Answer(stream.end().answer());
-            }
-            Outcome::Mistake(Mistake::System(Failed::Read, 0))
-        }
-    }
+    let ended = stream::at_end::<CardFile>(got, stream)?;
+    Ok(ended.answer())
 }

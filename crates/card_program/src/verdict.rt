@@ -15,15 +15,14 @@ ghost use Rattle.card_program.specs.Verdict.{
 
 use crate::outcome::Outcome;
 use card_run::answer::{Accepted, CardAnswer};
-use files::writing;
-use files::writing::{STDERR, STDOUT};
-use program::mistake;
-use program::mistake::{Failed, Mistake};
+use files::writing::Standard;
+use program::outcome;
+use program::outcome::Teller;
 use totals::amounts::Totals;
 use totals::two_sets::TwoSets;
 use wording::{line, put};
 
-// What is printed of an accepted file.
+// What is printed of an accepted file. An enum and no closure: what may not change is `put_outcome`, which is asked for either.
 #[derive(Clone, Copy)]
 pub enum Lines {
     // Its records, its batches, and the totals of its sales.
@@ -31,9 +30,6 @@ pub enum Lines {
     // Its credits and its debits.
     Adjustments,
 }
-
-// Room for every text.
-const ROOM: usize = 384;
 
 // Each function here puts its text behind the first `at` bytes, and answers how many bytes stand there then. First a line that a word leads.
 fn put_led(word: &[u8], name: &[u8], number: u64, out: &mut [u8], at: usize) -> usize
@@ -62,7 +58,7 @@ pub fn put_sets(sets: TwoSets, out: &mut [u8], at: usize) -> usize
     put_totals(b"SETTLED ", sets.settled, out, forecast)
 }
 
-pub(crate) fn put_accepted(accepted: Accepted, out: &mut [u8], at: usize) -> usize
+fn put_accepted(accepted: Accepted, out: &mut [u8], at: usize) -> usize
     ensures { Puts (accepted_text accepted) out.old at result out.new }
 {
     let word = put::text(b"ACCEPTED\n", out, at);
@@ -93,13 +89,25 @@ fn put_numbers(lines: Lines, accepted: Accepted, out: &mut [u8], at: usize) -> u
     }
 }
 
-fn put_verdict(lines: Lines, answer: CardAnswer, out: &mut [u8], at: usize) -> usize
+pub(crate) fn put_verdict(lines: Lines, answer: CardAnswer, out: &mut [u8], at: usize) -> usize
     ensures { Puts (verdict_text lines answer) out.old at result out.new }
 {
     match answer {
-        CardAnswer::GoingOn => put::text(b"", out, at),
-        CardAnswer::Accepted(accepted) => put_numbers(lines, accepted, out, at),
-        CardAnswer::Refused(refusal) => line::refused(refusal, out, at),
+        None => put::text(b"", out, at),
+        Some(Ok(accepted)) => put_numbers(lines, accepted, out, at),
+        Some(Err(refusal)) => line::refused(refusal, out, at),
+    }
+}
+
+// Tells a card file's verdict.
+impl Teller for Lines {
+    type Answer = CardAnswer;
+
+    ghost text_of = { λ lines answer. verdict_text lines answer };
+
+    #[tactic(auto, using(crate::proofs::Texts::verdict_short))]
+    fn put(&self, answer: CardAnswer, out: &mut [u8], at: usize) -> usize {
+        put_verdict(*self, answer, out, at)
     }
 }
 
@@ -107,34 +115,17 @@ fn put_verdict(lines: Lines, answer: CardAnswer, out: &mut [u8], at: usize) -> u
 pub fn put_outcome(lines: Lines, outcome: Outcome, out: &mut [u8], at: usize) -> usize
     ensures { Puts (outcome_text lines outcome) out.old at result out.new }
 {
-    match outcome {
-        Outcome::Answer(answer) => put_verdict(lines, answer, out, at),
-        Outcome::Mistake(mistake) => mistake::put(mistake, out, at),
-    }
+    outcome::put(&lines, outcome, out, at)
 }
 
 // Where an outcome's text goes: a verdict to standard output, a mistake to standard error.
-pub fn descriptor(outcome: Outcome) -> i32
+pub fn descriptor(outcome: Outcome) -> Standard
     ensures { result ≡ descriptor_of outcome }
 {
-    match outcome {
-        Outcome::Answer(_) => STDOUT,
-        Outcome::Mistake(_) => STDERR,
-    }
-}
-
-// Writes an outcome's text, and no other.
-fn write(rt: &HostRuntime, lines: Lines, outcome: Outcome, text: &[u8])
-    requires { text.now ≡ outcome_text lines outcome }
-{
-    if let Err(error) = writing::write_to(rt, descriptor(outcome), text) {
-        mistake::tell(rt, Mistake::System(Failed::Print, error));
-    }
+    outcome::standard(&outcome)
 }
 
 // Prints the verdict, or tells the mistake, by one call.
 pub fn print(rt: &HostRuntime, lines: Lines, outcome: Outcome) {
-    let mut room = [0u8; ROOM];
-    let size = put_outcome(lines, outcome, &mut room, 0);
-    write(rt, lines, outcome, &room[..size]);
+    outcome::print(rt, &lines, outcome);
 }

@@ -4,7 +4,6 @@ ghost use Rattle.card_program.specs.Checked.{Worked};
 
 use crate::check;
 use crate::outcome::Outcome;
-use edition::Edition;
 use program::mistake::Mistake;
 use std::io::Read;
 
@@ -12,8 +11,6 @@ use std::io::Read;
 pub fn work<R: Read>(edition: &[u8], reader: &mut R) -> Outcome
     ensures { Worked (edition_of edition.now) result }
 {
-    match edition::edition_of(edition) {
-        Edition::NoNumber => Outcome::Mistake(Mistake::EditionNoNumber),
-        Edition::Of(number) => check::check(number, reader),
-    }
+    let number = edition::edition_of(edition).ok_or(Mistake::EditionNoNumber)?;
+    check::check(number, reader)
 }

@@ -1,4 +1,3 @@
-mod Answers
 mod Pictures
 mod SurelyRight
 pub mod SameWay

@@ -8,7 +8,7 @@ use native.Mathlib.Omega.{arith}
 use lib.ListN.{length, take, length-take, length-drop}
 use lib.Dec.{leb}
 use borrow.Author.Tests.{le-leb, leb-true, eq-eqb}
-use Rattle.refusal.specs.declared.Fault.TheVariants.{Nothing}
+use Rattle.refusal.specs.Fault.{nothing}
 use Rattle.refusal.specs.Rules.{first_broken}
 use Rattle.refusal.proofs.Rules.{in_a_row}
 use Rattle.text.specs.declared.alphabet.Alphabet.{Alphabet}
@@ -32,7 +32,7 @@ use Rattle.card_content.specs.Content.{in_set, content_rules}
 use Rattle.card_content.specs.Field.{field, part_of, field_rules, table_rules, number_in, record_rules}
 use Rattle.card_sale.specs.Cv.{cv_table, cv_of}
 use Rattle.card_record.specs.declared.kind.Kind.TheVariants.{Cv as kind_cv}
-use Rattle.card_record.specs.declared.kind.KindFound.TheVariants.{Known}
+use Rattle.std.specs.Prelude.{Some}
 use Rattle.card_record.specs.declared.reading.Reading.TheVariants.{Cv as cv}
 use Rattle.card_quick.specs.Quick.{none_above, least, greatest, in_picture, value_in, sets_right, days_right, surely_right, quick_cv}
 use Rattle.card_record.specs.Kind.{kind_named, kind_of}
@@ -43,10 +43,10 @@ use Rattle.card_quick.proofs.Pictures.{slice_passes, at_least, at_most, between,
 infixr 20 ◌then◌
 data AllRight (e : ℕ) (r : List ℕ) : List Field → Type 0 where
   none : AllRight e r []
-  ◌then◌ : {f : Field} {fs : List Field} → first_broken (field_rules e r f) ≡ Nothing → AllRight e r fs → AllRight e r (f ∷ fs)
+  ◌then◌ : {f : Field} {fs : List Field} → first_broken (field_rules e r f) ≡ nothing → AllRight e r fs → AllRight e r (f ∷ fs)
 
 -- so the table has no fault
-no_fault_in : (e : ℕ) (r : List ℕ) (fs : List Field) → AllRight e r fs → first_broken (table_rules e r fs) ≡ Nothing
+no_fault_in : (e : ℕ) (r : List ℕ) (fs : List Field) → AllRight e r fs → first_broken (table_rules e r fs) ≡ nothing
 unfolding table_rules first_broken
 no_fault_in e r [] right = refl
 no_fault_in e r (f ∷ fs) (here then rest) = in_a_row (field_rules e r f) (table_rules e r fs) ∙ rw (here, no_fault_in e r fs rest)
@@ -92,7 +92,7 @@ module _ (r : List ℕ) (wide : length r ≡ 199) (fits : in_picture r ≡ true)
       (both_right (at_least low (positions first last least)) _ k)
 
   -- the kind is the same in both pictures, so it is the sale's
-  is_sale_lem : kind_of r ≡ Known kind_cv
+  is_sale_lem : kind_of r ≡ Some kind_cv
   unfolding least greatest kind_named same_bytes
   is_sale_lem =
       ap kind_named
@@ -140,27 +140,27 @@ module _ (r : List ℕ) (wide : length r ≡ 199) (fits : in_picture r ≡ true)
 
   -- each kind of field, where what is asked of it holds
   module _ (e : ℕ) where
-    digits_right_lem : (first last : ℕ) → kept_between 48 57 first last ≡ true → first_broken (field_rules e r (field first last Digits)) ≡ Nothing
+    digits_right_lem : (first last : ℕ) → kept_between 48 57 first last ≡ true → first_broken (field_rules e r (field first last Digits)) ≡ nothing
     unfolding content_rules first_broken
     digits_right_lem first last k = rw (digits_held first last k)
 
-    text_right : (first last : ℕ) → kept_between 32 126 first last ≡ true → first_broken (field_rules e r (field first last Text)) ≡ Nothing
+    text_right : (first last : ℕ) → kept_between 32 126 first last ≡ true → first_broken (field_rules e r (field first last Text)) ≡ nothing
     unfolding content_rules first_broken
     text_right first last k = rw (held card_text 32 126 text_allowed first last k)
 
     set_right : (first last : ℕ) (set : ClosedSet) → in_set set e (positions first last r) ≡ true →
-        first_broken (field_rules e r (field first last (OneOf set))) ≡ Nothing
+        first_broken (field_rules e r (field first last (OneOf set))) ≡ nothing
     unfolding content_rules first_broken
     set_right first last set h = rw h
 
-    card_right : (first last : ℕ) → well_formed (positions first last r) ≡ true → first_broken (field_rules e r (field first last Card)) ≡ Nothing
+    card_right : (first last : ℕ) → well_formed (positions first last r) ≡ true → first_broken (field_rules e r (field first last Card)) ≡ nothing
     unfolding content_rules first_broken
     card_right first last h = rw h
 
     -- a day or a time of so many digits
     when_right : (width : ℕ) (test : ℕ → Bool) (first last : ℕ) → length (positions first last r) ≡ width → leb width 17 ≡ true →
         kept_between 48 57 first last ≡ true → test (value_if_digits (positions first last r)) ≡ true →
-        first_broken (when_rules first (only_if test (written width (positions first last r)))) ≡ Nothing
+        first_broken (when_rules first (only_if test (written width (positions first last r)))) ≡ nothing
     unfolding first_broken when_rules
     when_right width test first last w short k real =
         let d = digits_held first last k in
@@ -173,7 +173,7 @@ module _ (r : List ℕ) (wide : length r ≡ 199) (fits : in_picture r ≡ true)
         omega (arith, leb-true last 199 h, length-drop (first - 1) (take last r), length-take last r)
 
     -- so a sale whose sets and days are right has no fault
-    no_fault : sets_right e r ≡ true → days_right r ≡ true → first_broken (table_rules e r cv_table) ≡ Nothing
+    no_fault : sets_right e r ≡ true → days_right r ≡ true → first_broken (table_rules e r cv_table) ≡ nothing
     unfolding sets_right days_right kept_between least greatest content_rules
     no_fault sets days =
         let launch = in_set LaunchType e (positions 44 44 r) in

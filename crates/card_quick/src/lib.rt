@@ -2,7 +2,7 @@
 // and the numbers are read with no second look. A sale that passes is right. Any other goes the slow way, field by field, which finds its fault.
 #![tactic(auto)]
 
-ghost use Rattle.std.specs.Prelude.{◌≡◌, ◌&&◌, length};
+ghost use Rattle.std.specs.Prelude.{◌≡◌, length};
 ghost use Rattle.card_content.specs.Content.{in_set};
 ghost use Rattle.card_content.specs.Field.{part_of};
 ghost use Rattle.card_record.specs.Reading.{reading_of};
@@ -18,6 +18,8 @@ ghost use Rattle.card_quick.specs.Quick.{
   quick_cv,
 };
 
+use calendar::day::is_day;
+use calendar::time::is_time;
 use card_content::content::ClosedSet;
 use card_content::field::Field;
 use card_record::reading::Reading;
@@ -26,29 +28,22 @@ use totals::amounts::Amounts;
 
 // Whether no byte of one row is above its neighbour in the other. There is no way out before the end, so that the machine can look at many
 // bytes at once.
+#[tactic(auto, using(crate::proofs::Pictures::above, crate::proofs::Pictures::not_above, crate::proofs::Pictures::rows_end))]
 fn none_above(low: &[u8], high: &[u8]) -> bool
     requires { length low.now ≡ length high.now }
     ensures { result ≡ none_above low.now high.now }
 {
     let mut none = true;
-    let mut i = 0;
-    while i < low.len() {
-        if high[i] < low[i] {
+    for (i, &byte) in low.iter().enumerate() {
+        if high[i] < byte {
             none = false;
         }
-        i += 1;
     }
     none
 }
 
-// Whether two tests hold.
-fn both(first: bool, second: bool) -> bool
-    ensures { result ≡ first && second }
-{
-    first && second
-}
-
 // Whether each byte of a record lies between the least and the greatest of a sale at its place.
+#[tactic(auto, unfolding(crate::specs::Quick::in_picture, crate::specs::Quick::least, crate::specs::Quick::greatest))]
 fn in_picture(sale: &[u8]) -> bool
     requires { length sale.now ≡ 199 }
     ensures { result ≡ in_picture sale.now }
@@ -57,7 +52,7 @@ fn in_picture(sale: &[u8]) -> bool
         b"CV               00000000000000000000000000000000000C1000000000000000000000000000000000*******************0000000000000000000000000000000000000000000000000000000000           000000000000      000000";
     let greatest =
         b"CV~~~~~~~~~~~~~~~99999999999999999999999999999999999V999999999999999999999999999999999999999999999999999999999999999999999999999999999999999999999999999999999999999~~~~~~~~~~~999999999999~~~~~~999999";
-    both(none_above(least, sale), none_above(sale, greatest))
+    none_above(least, sale) && none_above(sale, greatest)
 }
 
 // Whether a field of a record is a value of a closed set.
@@ -75,35 +70,33 @@ fn value(field: Field, sale: &[u8]) -> u64
 }
 
 // Whether the closed sets of a sale and its card are kept.
+#[tactic(auto, unfolding(crate::specs::Quick::sets_right))]
 fn sets_right(edition: u64, sale: &[u8]) -> bool
     ensures { result ≡ sets_right edition sale.now }
 {
-    let launch = is_in(Cv::LAUNCH_TYPE, ClosedSet::LaunchType, edition, sale);
-    let product = is_in(Cv::PRODUCT, ClosedSet::Product, edition, sale);
-    let capture = is_in(Cv::CAPTURE, ClosedSet::Capture, edition, sale);
-    let card = pan::well_formed(Cv::CARD.part(sale));
-    both(launch, both(product, both(capture, card)))
+    is_in(Cv::LAUNCH_TYPE, ClosedSet::LaunchType, edition, sale)
+        && is_in(Cv::PRODUCT, ClosedSet::Product, edition, sale)
+        && is_in(Cv::CAPTURE, ClosedSet::Capture, edition, sale)
+        && pan::well_formed(Cv::CARD.part(sale))
 }
 
 // Whether the dates and the time of a sale are real, if they are digits.
+#[tactic(auto, unfolding(crate::specs::Quick::days_right))]
 fn days_right(sale: &[u8]) -> bool
     ensures { result ≡ days_right sale.now }
 {
-    let date = calendar::day::is_day(value(Cv::DATE, sale));
-    let time = calendar::time::is_time(value(Cv::TIME, sale));
-    let launch = calendar::day::is_day(value(Cv::LAUNCH_DATE, sale));
-    both(date, both(time, launch))
+    is_day(value(Cv::DATE, sale))
+        && is_time(value(Cv::TIME, sale))
+        && is_day(value(Cv::LAUNCH_DATE, sale))
 }
 
 // Whether a record is surely a right sale.
+#[tactic(auto, unfolding(crate::specs::Quick::surely_right))]
 fn is_right(edition: u64, sale: &[u8]) -> bool
     requires { length sale.now ≡ 199 }
     ensures { result ≡ surely_right edition sale.now }
 {
-    if !in_picture(sale) {
-        return false;
-    }
-    both(sets_right(edition, sale), days_right(sale))
+    in_picture(sale) && sets_right(edition, sale) && days_right(sale)
 }
 
 // The amounts in three fields, if they are digits.
@@ -141,10 +134,7 @@ fn numbers(sale: &[u8]) -> Cv
 fn passes(edition: u64, bytes: &[u8]) -> bool
     ensures { result ≡ passes_quick edition bytes.now }
 {
-    if bytes.len() == Cv::WIDTH {
-        return is_right(edition, &bytes[..Cv::WIDTH]);
-    }
-    false
+    bytes.len() == Cv::WIDTH && is_right(edition, &bytes[..Cv::WIDTH])
 }
 
 // Any bytes as a record, without a line end, under an edition: as `card_record` reads it, and quicker where it is a right sale.
@@ -152,7 +142,8 @@ pub fn read(edition: u64, bytes: &[u8]) -> Reading
     ensures { result ≡ reading_of edition bytes.now }
 {
     if passes(edition, bytes) {
-        return Reading::Cv(numbers(&bytes[..Cv::WIDTH]));
+        Reading::Cv(numbers(&bytes[..Cv::WIDTH]))
+    } else {
+        card_record::reading::read(edition, bytes)
     }
-    card_record::reading::read(edition, bytes)
 }

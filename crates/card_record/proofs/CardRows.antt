@@ -15,7 +15,7 @@ use Rattle.card_content.specs.Field.{field}
 use Rattle.card_content.proofs.FieldParts.{same_number}
 use Rattle.card_sale.specs.Cv.{cv_table, cv_of}
 use Rattle.card_adjustment.specs.Aj.{aj_table, aj_of}
-use Rattle.card_record.specs.declared.card_part.CardPart.TheVariants.{From, Nowhere}
+use Rattle.std.specs.Prelude.{Some, None}
 use Rattle.card_record.specs.declared.kind.Kind.{Kind}
 use Rattle.card_record.specs.declared.kind.Kind.TheVariants.{A0, L0, Cv, Aj, L9, A9}
 use Rattle.card_record.specs.declared.reading.Reading.TheVariants.{Cv as cv, Aj as aj}
@@ -93,14 +93,14 @@ aj_row =
     }
 
 -- what has no card has none at a place
-pub nowhere : {from : ℕ} → Nowhere ≡ From from → ⊥
+pub nowhere : {from : ℕ} → None ≡ Some from → ⊥
 nowhere e = let z : ◌≡◌ {A = ℕ} 0 1 = cc in omega arith
 
-same_from : {k from : ℕ} → From k ≡ From from → k ≡ from
+same_from : {k from : ℕ} → Some k ≡ Some from → k ≡ from
 same_from e = cc
 
 -- each kind
-pub card_row : (kind : Kind) {from : ℕ} → card_of kind ≡ From from → CardRow kind from
+pub card_row : (kind : Kind) {from : ℕ} → card_of kind ≡ Some from → CardRow kind from
 card_row A0 e = absurd (nowhere e)
 card_row L0 e = absurd (nowhere e)
 card_row Cv e = subst (CardRow Cv) (same_from e) cv_row

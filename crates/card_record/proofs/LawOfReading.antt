@@ -13,7 +13,7 @@ use Rattle.card_content.specs.declared.content.Content.TheVariants.{Text}
 use Rattle.card_content.specs.EqualOutside.{EqualOutside}
 use Rattle.card_content.specs.Field.{field, table_rules, record_rules}
 use Rattle.card_content.proofs.FieldParts.{same_part, same_around}
-use Rattle.card_record.specs.declared.card_part.CardPart.TheVariants.{From}
+use Rattle.std.specs.Prelude.{Some}
 use Rattle.card_record.specs.declared.kind.Kind.{Kind}
 use Rattle.card_record.specs.CardPart.{card_part, card_from}
 use Rattle.card_record.specs.Kind.{kind_named, kind_of}
@@ -53,7 +53,7 @@ module _ (kind : Kind) (from : ℕ) (row : CardRow kind from) (r s : List ℕ) (
       same_reading = ap₂ (judged_as kind) (ap first_broken same_rules) (row.same_numbers r s same)
 
 -- two records that are equal outside the card of one of them, and whose cards are alike, read the same
-pub law_of_reading : (e from : ℕ) (r s : List ℕ) → card_part r ≡ From from → EqualOutside from (from + 19) r s →
+pub law_of_reading : (e from : ℕ) (r s : List ℕ) → card_part r ≡ Some from → EqualOutside from (from + 19) r s →
     AlikeCards (card_from from r) (card_from from s) → reading_of e r ≡ reading_of e s
 unfolding read_found
 law_of_reading e from r s has same alike =
@@ -64,7 +64,7 @@ law_of_reading e from r s has same alike =
     sym (ap (λ found. read_found found e s) (sym (same_kind is.kind from is.row r s same) ∙ known))
 
 -- and the other has its card at the same place
-pub same_place : (from : ℕ) (r s : List ℕ) → card_part r ≡ From from → EqualOutside from (from + 19) r s → card_part s ≡ From from
+pub same_place : (from : ℕ) (r s : List ℕ) → card_part r ≡ Some from → EqualOutside from (from + 19) r s → card_part s ≡ Some from
 same_place from r s has same =
     let is = has_card from r has in
     card_if is.kind s

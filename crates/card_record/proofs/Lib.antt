@@ -1,3 +1,4 @@
+mod Names
 pub mod CardRow
 mod CardRows
 pub mod CardParts

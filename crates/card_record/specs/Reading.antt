@@ -1,7 +1,6 @@
 -- What reading a record answers: at each record "4, .. 6, single fields by position", as far as they look at the record alone.
-use Rattle.std.specs.Prelude.{ℕ, List}
-use Rattle.refusal.specs.declared.Fault.{Fault}
-use Rattle.refusal.specs.declared.Fault.TheVariants.{Nothing, At}
+use Rattle.std.specs.Prelude.{ℕ, List, Option, Some, None, Ok, Err}
+use Rattle.refusal.specs.Fault.{Judged}
 use Rattle.refusal.specs.Rules.{Rule, first_broken}
 use Rattle.card_content.specs.declared.field.Field.{Field}
 use Rattle.card_content.specs.Field.{record_rules}
@@ -11,12 +10,8 @@ use Rattle.card_frame.specs.A0.{a0_table, a0_of}
 use Rattle.card_frame.specs.L0.{l0_table, l0_of}
 use Rattle.card_frame.specs.L9.{l9_table, l9_of}
 use Rattle.card_frame.specs.A9.{a9_table, a9_of}
-use Rattle.card_record.specs.declared.card_part.CardPart.{CardPart}
-use Rattle.card_record.specs.declared.card_part.CardPart.TheVariants.{From, Nowhere}
 use Rattle.card_record.specs.declared.kind.Kind.{Kind}
 use Rattle.card_record.specs.declared.kind.Kind.TheVariants.{A0, L0, Cv, Aj, L9, A9}
-use Rattle.card_record.specs.declared.kind.KindFound.{KindFound}
-use Rattle.card_record.specs.declared.kind.KindFound.TheVariants.{Known, Unknown}
 use Rattle.card_record.specs.declared.reading.Reading.{Reading}
 use Rattle.card_record.specs.declared.reading.Reading.TheVariants.{
   Unknown as unknown,
@@ -48,13 +43,13 @@ table_of L9 = l9_table
 table_of A9 = a9_table
 
 -- the place, from 0, at which the 19 bytes of a kind's card begin: "card 88-106" of a CV, field 21, 163-181, of an AJ
-abbrev pub card_of : Kind → CardPart
-card_of A0 = Nowhere
-card_of L0 = Nowhere
-card_of Cv = From 87
-card_of Aj = From 162
-card_of L9 = Nowhere
-card_of A9 = Nowhere
+abbrev pub card_of : Kind → Option ℕ
+card_of A0 = None
+card_of L0 = None
+card_of Cv = Some 87
+card_of Aj = Some 162
+card_of L9 = None
+card_of A9 = None
 
 -- the rules of a kind that look at one record's width and fields
 abbrev pub kind_rules : Kind → ℕ → List ℕ → List Rule
@@ -70,16 +65,16 @@ right_reading L9 r = l9 (l9_of r)
 right_reading A9 r = a9 (a9_of r)
 
 -- the first fault, or where there is none the numbers
-unfoldable pub judged_as : Kind → Fault → Reading → Reading
-judged_as kind Nothing numbers = numbers
-judged_as kind (At cause column) numbers = faulty kind cause column
+unfoldable pub judged_as : Kind → Judged → Reading → Reading
+judged_as kind (Ok none) numbers = numbers
+judged_as kind (Err fault) numbers = faulty kind fault
 
 abbrev pub read_as : Kind → ℕ → List ℕ → Reading
 read_as kind edition r = judged_as kind (first_broken (kind_rules kind edition r)) (right_reading kind r)
 
-unfoldable pub read_found : KindFound → ℕ → List ℕ → Reading
-read_found (Known kind) edition r = read_as kind edition r
-read_found Unknown edition r = unknown
+unfoldable pub read_found : Option Kind → ℕ → List ℕ → Reading
+read_found (Some kind) edition r = read_as kind edition r
+read_found None edition r = unknown
 
 -- any bytes as a record
 abbrev pub reading_of : ℕ → List ℕ → Reading

@@ -36,35 +36,18 @@ impl Kind {
     }
 }
 
-// A record's kind, or none that is read.
-#[derive(Clone, Copy)]
-pub enum KindFound {
-    Known(Kind),
-    Unknown,
-}
-
 // The kind that a record's first two bytes name.
-pub fn kind_of(bytes: &[u8]) -> KindFound
+#[tactic(auto, using(crate::proofs::Names::two_bytes, std::proofs::lemmas::Bool::Decides::nat_tests), unfolding(crate::specs::Kind::kind_named))]
+pub fn kind_of(bytes: &[u8]) -> Option<Kind>
     ensures { result ≡ kind_of bytes.now }
 {
-    let name = text::part::part_of(1, 2, bytes);
-    if text::literal::equals(name, b"CV") {
-        return KindFound::Known(Kind::Cv);
+    match text::part::part_of(1, 2, bytes) {
+        b"CV" => Some(Kind::Cv),
+        b"AJ" => Some(Kind::Aj),
+        b"L0" => Some(Kind::L0),
+        b"L9" => Some(Kind::L9),
+        b"A0" => Some(Kind::A0),
+        b"A9" => Some(Kind::A9),
+        _ => None,
     }
-    if text::literal::equals(name, b"AJ") {
-        return KindFound::Known(Kind::Aj);
-    }
-    if text::literal::equals(name, b"L0") {
-        return KindFound::Known(Kind::L0);
-    }
-    if text::literal::equals(name, b"L9") {
-        return KindFound::Known(Kind::L9);
-    }
-    if text::literal::equals(name, b"A0") {
-        return KindFound::Known(Kind::A0);
-    }
-    if text::literal::equals(name, b"A9") {
-        return KindFound::Known(Kind::A9);
-    }
-    KindFound::Unknown
 }

@@ -1,22 +1,24 @@
 // What reading a record's bytes answers. It looks at one record alone, and keeps nothing of the card.
 ghost use Rattle.std.specs.Prelude.{◌≡◌};
-ghost use Rattle.card_record.specs.Reading.{judged_as, read_as, reading_of};
+ghost use Rattle.refusal.specs.Rules.{first_broken};
+ghost use Rattle.card_record.specs.Reading.{kind_rules, right_reading, reading_of};
 
-use crate::kind::{Kind, KindFound};
+use crate::kind::{Kind, kind_of};
 use card_adjustment::aj::Aj;
 use card_frame::a0::A0;
 use card_frame::a9::A9;
 use card_frame::l0::L0;
 use card_frame::l9::L9;
 use card_sale::cv::Cv;
-use refusal::{Cause, Fault};
+use refusal::Fault;
 
+// What reading answers. No `Result`: a record that is unknown or faulty is judged at its place like any other, and its fault comes behind that of the place.
 #[derive(Clone, Copy)]
 pub enum Reading {
     // A kind that is not read.
     Unknown,
-    // A known kind, and the first fault among its width and its fields, with its column.
-    Faulty(Kind, Cause, u64),
+    // A known kind, and the first fault among its width and its fields.
+    Faulty(Kind, Fault),
     // The numbers of a record whose width and fields are right.
     A0(A0),
     L0(L0),
@@ -26,60 +28,45 @@ pub enum Reading {
     A9(A9),
 }
 
-// A known kind's reading: its fault, or where it has none its numbers.
-fn judged(kind: Kind, fault: Fault, numbers: Reading) -> Reading
-    ensures { result ≡ judged_as kind fault numbers }
+// The first fault of the bytes as a record of this kind.
+fn fault_of(kind: Kind, edition: u64, bytes: &[u8]) -> Result<(), Fault>
+    ensures { result ≡ first_broken (kind_rules kind edition bytes.now) }
 {
-    match fault {
-        Fault::Nothing => numbers,
-        Fault::At(cause, column) => Reading::Faulty(kind, cause, column),
+    match kind {
+        Kind::A0 => A0::fault(edition, bytes),
+        Kind::L0 => L0::fault(edition, bytes),
+        Kind::Cv => Cv::fault(edition, bytes),
+        Kind::Aj => Aj::fault(edition, bytes),
+        Kind::L9 => L9::fault(edition, bytes),
+        Kind::A9 => A9::fault(edition, bytes),
     }
 }
 
-// The bytes as a record of this kind.
-fn read_as(kind: Kind, edition: u64, bytes: &[u8]) -> Reading
-    ensures { result ≡ read_as kind edition bytes.now }
+// The numbers of the bytes as a record of this kind.
+#[tactic(auto, unfolding(crate::specs::Reading::right_reading))]
+fn numbers_of(kind: Kind, bytes: &[u8]) -> Reading
+    ensures { result ≡ right_reading kind bytes.now }
 {
     match kind {
-        Kind::A0 => judged(
-            Kind::A0,
-            A0::fault(edition, bytes),
-            Reading::A0(A0::read(bytes)),
-        ),
-        Kind::L0 => judged(
-            Kind::L0,
-            L0::fault(edition, bytes),
-            Reading::L0(L0::read(bytes)),
-        ),
-        Kind::Cv => judged(
-            Kind::Cv,
-            Cv::fault(edition, bytes),
-            Reading::Cv(Cv::read(bytes)),
-        ),
-        Kind::Aj => judged(
-            Kind::Aj,
-            Aj::fault(edition, bytes),
-            Reading::Aj(Aj::read(bytes)),
-        ),
-        Kind::L9 => judged(
-            Kind::L9,
-            L9::fault(edition, bytes),
-            Reading::L9(L9::read(bytes)),
-        ),
-        Kind::A9 => judged(
-            Kind::A9,
-            A9::fault(edition, bytes),
-            Reading::A9(A9::read(bytes)),
-        ),
+        Kind::A0 => Reading::A0(A0::read(bytes)),
+        Kind::L0 => Reading::L0(L0::read(bytes)),
+        Kind::Cv => Reading::Cv(Cv::read(bytes)),
+        Kind::Aj => Reading::Aj(Aj::read(bytes)),
+        Kind::L9 => Reading::L9(L9::read(bytes)),
+        Kind::A9 => Reading::A9(A9::read(bytes)),
     }
 }
 
 // Any bytes as a record, without a line end, under an edition.
+#[tactic(auto, unfolding(crate::specs::Reading::read_found, crate::specs::Reading::judged_as))]
 pub fn read(edition: u64, bytes: &[u8]) -> Reading
     ensures { result ≡ reading_of edition bytes.now }
 {
-    match crate::kind::kind_of(bytes) {
-        KindFound::Known(kind) => read_as(kind, edition, bytes),
-        KindFound::Unknown => Reading::Unknown,
+    let Some(kind) = kind_of(bytes) else {
+        return Reading::Unknown;
+    };
+    match fault_of(kind, edition, bytes) {
+        Ok(()) => numbers_of(kind, bytes),
+        Err(fault) => Reading::Faulty(kind, fault),
     }
 }

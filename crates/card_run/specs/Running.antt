@@ -1,9 +1,8 @@
 -- The running state: at which stage it opens, is refused, and is closed.
-use Rattle.std.specs.Prelude.{ℕ}
+use Rattle.std.specs.Prelude.{ℕ, Ok, Err}
 use Rattle.refusal.specs.declared.Cause.{Cause}
 use Rattle.refusal.specs.declared.Cause.TheVariants.{EndsTooEarly, BytesAfterTheEnd}
-use Rattle.refusal.specs.declared.Fault.{Fault}
-use Rattle.refusal.specs.declared.Fault.TheVariants.{Nothing, At}
+use Rattle.refusal.specs.Fault.{Judged}
 use Rattle.refusal.specs.Nowhere.{nowhere}
 use Rattle.totals.specs.declared.two_sets.TwoSets.{TwoSets}
 use Rattle.totals.specs.Sum.{capped}
@@ -19,9 +18,9 @@ use Rattle.card_run.specs.Adjusted.{no_adjustment}
 use Rattle.card_run.specs.Batch.{no_transaction}
 
 -- "A bad edition is refused, 1, from the start", and a retired one by 22
-abbrev pub open_at : Fault → Stage
-open_at Nothing = Start
-open_at (At cause column) = Refused (nowhere cause)
+abbrev pub open_at : Judged → Stage
+open_at (Ok none) = Start
+open_at (Err fault) = Refused (nowhere fault.cause)
 
 abbrev pub open_stage : ℕ → Stage
 open_stage edition = open_at (edition_fault edition)

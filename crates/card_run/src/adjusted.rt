@@ -2,7 +2,7 @@
 ghost use Rattle.std.specs.Prelude.{◌≡◌};
 ghost use Rattle.card_run.specs.Adjusted.{no_adjustment, one_adjustment_more};
 
-#[derive(Clone, Copy)]
+#[derive(Clone, Copy, Default)]
 pub struct Adjusted {
     pub count: u64,
     pub net: u64,
@@ -13,7 +13,7 @@ impl Adjusted {
     pub fn none() -> Adjusted
         ensures { result ≡ no_adjustment }
     {
-        Adjusted { count: 0, net: 0 }
+        Adjusted::default()
     }
 
     // One adjustment more, of this net.

@@ -1,6 +1,6 @@
 // The answer of a card file.
 use crate::adjusted::Adjusted;
-use refusal::Refusal;
+use refusal::Progress;
 use totals::two_sets::TwoSets;
 
 // The numbers of an accepted file.
@@ -15,10 +15,5 @@ pub struct Accepted {
     pub debits: Adjusted,
 }
 
-#[derive(Clone, Copy)]
-pub enum CardAnswer {
-    // Nothing is refused so far, and the file is not closed.
-    GoingOn,
-    Accepted(Accepted),
-    Refused(Refusal),
-}
+// None as long as nothing is refused and the file is not closed.
+pub type CardAnswer = Progress<Accepted>;

@@ -2,7 +2,7 @@
 ghost use Rattle.std.specs.Prelude.{◌≡◌};
 ghost use Rattle.card_run.specs.Batch.{no_transaction, one_added, one_taken, sums_to};
 
-#[derive(Clone, Copy)]
+#[derive(Clone, Copy, Default)]
 pub struct OpenBatch {
     pub transactions: u64,
     pub added: u64,
@@ -14,11 +14,7 @@ impl OpenBatch {
     pub fn none() -> OpenBatch
         ensures { result ≡ no_transaction }
     {
-        OpenBatch {
-            transactions: 0,
-            added: 0,
-            taken: 0,
-        }
+        OpenBatch::default()
     }
 
     // One transaction more, whose amount is added.
@@ -47,9 +43,6 @@ impl OpenBatch {
     pub fn sums_to(self, sum: u64) -> bool
         ensures { result ≡ sums_to sum self }
     {
-        if self.added < self.taken {
-            return false;
-        }
-        sum == self.added - self.taken
+        self.added.checked_sub(self.taken) == Some(sum)
     }
 }

@@ -6,6 +6,7 @@ ghost use Rattle.card_run.specs.Running.{
   open_of,
   next_number,
   moved,
+  staged,
   refused_at,
   late_of,
   closed_of,
@@ -15,7 +16,7 @@ use crate::adjusted::Adjusted;
 use crate::answer::{Accepted, CardAnswer};
 use crate::batch::OpenBatch;
 use crate::stage::Stage;
-use refusal::{Cause, Fault, Refusal};
+use refusal::{Cause, Refusal};
 use totals::two_sets::TwoSets;
 
 // `numbers` are of the records that have come so far: the answer, once the file is accepted.
@@ -32,8 +33,8 @@ fn opening(edition: u64) -> Stage
     ensures { result ≡ open_stage edition }
 {
     match edition::known::fault_of(edition) {
-        Fault::Nothing => Stage::Start,
-        Fault::At(cause, _) => Stage::Refused(Refusal::nowhere(cause)),
+        Ok(()) => Stage::Start,
+        Err(fault) => Stage::Refused(Refusal::nowhere(fault.cause)),
     }
 }
 
@@ -62,8 +63,7 @@ impl Running {
     pub fn next_number(self) -> u64
         ensures { result ≡ next_number self }
     {
-        let numbers = self.numbers;
-        totals::sum::added(numbers.records, 1)
+        totals::sum::added(self.numbers.records, 1)
     }
 
     // The same file at a stage, with these numbers and this open batch.
@@ -78,65 +78,59 @@ impl Running {
         }
     }
 
+    // The same at another stage alone.
+    fn staged(self, stage: Stage) -> Running
+        ensures { result ≡ staged stage self }
+    {
+        self.moved(stage, self.numbers, self.batch)
+    }
+
     // Refused for good, at the record that comes next.
     pub fn refused(self, cause: Cause, column: u64) -> Running
         ensures { result ≡ refused_at cause column self }
     {
-        let refusal = Refusal {
+        self.staged(Stage::Refused(Refusal {
             cause,
             record: self.next_number(),
             column,
-        };
-        let numbers = self.numbers;
-        let batch = self.batch;
-        self.moved(Stage::Refused(refusal), numbers, batch)
+        }))
     }
 
     // Behind bytes that come when none are expected: 13, unless the file is refused already.
+    #[tactic(auto, unfolding(crate::specs::Running::late_at))]
     pub fn late(self) -> Running
         ensures { result ≡ late_of self }
     {
-        let stage = self.stage;
-        match stage {
-            Stage::Refused(_) => self,
-            Stage::Ended => self.refused(Cause::BytesAfterTheEnd, 0),
-            Stage::Closed => self.refused(Cause::BytesAfterTheEnd, 0),
-            Stage::Start => self,
-            Stage::BetweenBatches => self,
-            Stage::InBatch => self,
+        match self.stage {
+            Stage::Ended | Stage::Closed => self.refused(Cause::BytesAfterTheEnd, 0),
+            Stage::Refused(_) | Stage::Start | Stage::BetweenBatches | Stage::InBatch => self,
         }
     }
 
     // Closes the file: no record comes any more.
+    #[tactic(auto, unfolding(crate::specs::Running::closed_at))]
     pub fn close(self) -> Running
         ensures { result ≡ closed_of self }
     {
-        let stage = self.stage;
-        let numbers = self.numbers;
-        let batch = self.batch;
-        match stage {
-            Stage::Refused(_) => self,
-            Stage::Ended => self.moved(Stage::Closed, numbers, batch),
-            Stage::Closed => self,
-            Stage::Start => self.refused(Cause::EndsTooEarly, 0),
-            Stage::BetweenBatches => self.refused(Cause::EndsTooEarly, 0),
-            Stage::InBatch => self.refused(Cause::EndsTooEarly, 0),
+        match self.stage {
+            Stage::Start | Stage::BetweenBatches | Stage::InBatch => self.refused(
+                Cause::EndsTooEarly,
+                0,
+            ),
+            Stage::Ended => self.staged(Stage::Closed),
+            Stage::Closed | Stage::Refused(_) => self,
         }
     }
 
     // The answer so far.
+    #[tactic(auto, unfolding(crate::specs::Answer::answer_at))]
     pub fn answer(self) -> CardAnswer
         ensures { result ≡ answer_of self }
     {
-        let stage = self.stage;
-        let numbers = self.numbers;
-        match stage {
-            Stage::Refused(refusal) => CardAnswer::Refused(refusal),
-            Stage::Closed => CardAnswer::Accepted(numbers),
-            Stage::Ended => CardAnswer::GoingOn,
-            Stage::Start => CardAnswer::GoingOn,
-            Stage::BetweenBatches => CardAnswer::GoingOn,
-            Stage::InBatch => CardAnswer::GoingOn,
+        match self.stage {
+            Stage::Refused(refusal) => Some(Err(refusal)),
+            Stage::Closed => Some(Ok(self.numbers)),
+            Stage::Start | Stage::BetweenBatches | Stage::InBatch | Stage::Ended => None,
         }
     }
 }

@@ -25,14 +25,7 @@ impl Stage {
     pub fn is_open(self) -> bool
         ensures { result ≡ is_open self }
     {
-        match self {
-            Stage::Start => true,
-            Stage::BetweenBatches => true,
-            Stage::InBatch => true,
-            Stage::Ended => false,
-            Stage::Closed => false,
-            Stage::Refused(_) => false,
-        }
+        matches!(self, Stage::Start | Stage::BetweenBatches | Stage::InBatch)
     }
 
     // Whether a record of this kind may stand here.
@@ -40,33 +33,10 @@ impl Stage {
         ensures { result ≡ placed self kind }
     {
         match self {
-            Stage::Start => match kind {
-                Kind::A0 => true,
-                Kind::L0 => false,
-                Kind::Cv => false,
-                Kind::Aj => false,
-                Kind::L9 => false,
-                Kind::A9 => false,
-            },
-            Stage::BetweenBatches => match kind {
-                Kind::A0 => false,
-                Kind::L0 => true,
-                Kind::Cv => false,
-                Kind::Aj => false,
-                Kind::L9 => false,
-                Kind::A9 => true,
-            },
-            Stage::InBatch => match kind {
-                Kind::A0 => false,
-                Kind::L0 => false,
-                Kind::Cv => true,
-                Kind::Aj => true,
-                Kind::L9 => true,
-                Kind::A9 => false,
-            },
-            Stage::Ended => false,
-            Stage::Closed => false,
-            Stage::Refused(_) => false,
+            Stage::Start => matches!(kind, Kind::A0),
+            Stage::BetweenBatches => matches!(kind, Kind::L0 | Kind::A9),
+            Stage::InBatch => matches!(kind, Kind::Cv | Kind::Aj | Kind::L9),
+            Stage::Ended | Stage::Closed | Stage::Refused(_) => false,
         }
     }
 }

@@ -1,5 +1,5 @@
 -- CV, 199 bytes, fields 1 to 26.
-use Rattle.std.specs.Prelude.{ℕ, List, [], ◌∷◌, Bool, cond, not, ◌&&◌, ◌||◌, leb, eqb}
+use Rattle.std.specs.Prelude.{ℕ, List, [], ◌∷◌, ◌++◌, Bool, cond, not, ◌&&◌, ◌||◌, leb, eqb}
 use Rattle.refusal.specs.declared.Cause.TheVariants.{ValueNotAllowed, AmountsDisagree}
 use Rattle.refusal.specs.Rules.{Rule, rule_at}
 use Rattle.totals.specs.declared.amounts.Amounts.{Amounts}
@@ -10,9 +10,9 @@ use Rattle.card_content.specs.declared.field.Field.{Field}
 use Rattle.card_content.specs.Field.{field, number_in}
 use Rattle.card_sale.specs.declared.cv.Cv.{Cv}
 
--- the fields behind the kind; "Amounts are eleven digits, in centavos"
-abbrev pub cv_table : List Field
-cv_table =
+-- the fields behind the kind, from store to capture; "Amounts are eleven digits, in centavos"
+abbrev pub sale_table : List Field
+sale_table =
     field 3 17 Text ∷  -- "store 3-17 AN"
     field 18 29 Digits ∷  -- "NSU 18-29 N"
     field 30 37 Day ∷  -- "date 30-37"
@@ -21,6 +21,11 @@ cv_table =
     field 45 52 Day ∷  -- "launch date 45-52"
     field 53 53 (OneOf Product) ∷  -- "product 53"
     field 54 54 (OneOf Capture) ∷  -- "capture 54"
+    []
+
+-- from sale gross to instalment net
+abbrev pub amount_table : List Field
+amount_table =
     field 55 65 Digits ∷  -- "sale gross 55-65"
     field 66 76 Digits ∷  -- "discount 66-76"
     field 77 87 Digits ∷  -- "net 77-87"
@@ -31,6 +36,11 @@ cv_table =
     field 123 133 Digits ∷  -- "instalment gross 123-133"
     field 134 144 Digits ∷  -- "discount 134-144"
     field 145 155 Digits ∷  -- "net 145-155"
+    []
+
+-- from bank to NSEQ
+abbrev pub bank_table : List Field
+bank_table =
     field 156 158 Digits ∷  -- "bank 156-158 N"
     field 159 164 Digits ∷  -- "branch 159-164 N"
     field 165 175 Text ∷  -- "account 165-175 AN"
@@ -39,6 +49,9 @@ cv_table =
     field 191 193 Text ∷  -- "product code 191-193 AN"
     field 194 199 Digits ∷  -- "NSEQ 194-199"
     []
+
+abbrev pub cv_table : List Field
+cv_table = sale_table ++ (amount_table ++ bank_table)
 
 abbrev pub sale_amounts : List ℕ → Amounts
 sale_amounts r =

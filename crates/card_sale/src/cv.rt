@@ -1,9 +1,11 @@
 // CV, a sale.
-ghost use Rattle.std.specs.Prelude.{◌≡◌, not, ◌||◌, take, drop, eqb};
+ghost use Rattle.std.specs.Prelude.{◌≡◌};
 ghost use Rattle.refusal.specs.Rules.{first_broken};
-ghost use Rattle.totals.specs.Amounts.{agreeing};
 ghost use Rattle.card_content.specs.Field.{table_rules, record_rules};
 ghost use Rattle.card_sale.specs.Cv.{
+  sale_table,
+  amount_table,
+  bank_table,
   cv_table,
   sale_amounts,
   instalment_amounts,
@@ -20,7 +22,7 @@ use card_content::field::Field;
 use refusal::{Cause, Fault};
 use totals::amounts::Amounts;
 
-// What later rules and the totals need of it; not the card.
+// What later rules and the totals need of it; not the card. The launch type stays the number that was read (`cv_of`): a state that a caller made up may have any.
 #[derive(Clone, Copy)]
 pub struct Cv {
     pub launch_type: u64,
@@ -86,61 +88,60 @@ impl Cv {
     pub const NSEQ: Field = Field(194, 199, Content::Digits);
 
     // The first fault of the fields from store to capture.
-    fn sale_fields(edition: u64, bytes: &[u8]) -> Fault
-        ensures { result ≡ first_broken (table_rules edition bytes.now (take 8 cv_table)) }
+    #[tactic(auto, using(card_content::proofs::Rows::each_field))]
+    fn sale_fields(edition: u64, bytes: &[u8]) -> Result<(), Fault>
+        ensures { result ≡ first_broken (table_rules edition bytes.now sale_table) }
     {
-        Cv::STORE
-            .fault(edition, bytes)
-            .earlier(Cv::NSU.fault(edition, bytes))
-            .earlier(Cv::DATE.fault(edition, bytes))
-            .earlier(Cv::TIME.fault(edition, bytes))
-            .earlier(Cv::LAUNCH_TYPE.fault(edition, bytes))
-            .earlier(Cv::LAUNCH_DATE.fault(edition, bytes))
-            .earlier(Cv::PRODUCT.fault(edition, bytes))
-            .earlier(Cv::CAPTURE.fault(edition, bytes))
+        Cv::STORE.fault(edition, bytes)?;
+        Cv::NSU.fault(edition, bytes)?;
+        Cv::DATE.fault(edition, bytes)?;
+        Cv::TIME.fault(edition, bytes)?;
+        Cv::LAUNCH_TYPE.fault(edition, bytes)?;
+        Cv::LAUNCH_DATE.fault(edition, bytes)?;
+        Cv::PRODUCT.fault(edition, bytes)?;
+        Cv::CAPTURE.fault(edition, bytes)
     }
 
     // The first fault of the fields from sale gross to instalment net.
-    fn amount_fields(edition: u64, bytes: &[u8]) -> Fault
-        ensures { result ≡ first_broken (table_rules edition bytes.now (take 10 (drop 8 cv_table))) }
+    #[tactic(auto, using(card_content::proofs::Rows::each_field))]
+    fn amount_fields(edition: u64, bytes: &[u8]) -> Result<(), Fault>
+        ensures { result ≡ first_broken (table_rules edition bytes.now amount_table) }
     {
-        Cv::SALE_GROSS
-            .fault(edition, bytes)
-            .earlier(Cv::SALE_DISCOUNT.fault(edition, bytes))
-            .earlier(Cv::SALE_NET.fault(edition, bytes))
-            .earlier(Cv::CARD.fault(edition, bytes))
-            .earlier(Cv::INSTALMENT.fault(edition, bytes))
-            .earlier(Cv::INSTALMENTS.fault(edition, bytes))
-            .earlier(Cv::INSTALMENT_NSU.fault(edition, bytes))
-            .earlier(Cv::INSTALMENT_GROSS.fault(edition, bytes))
-            .earlier(Cv::INSTALMENT_DISCOUNT.fault(edition, bytes))
-            .earlier(Cv::INSTALMENT_NET.fault(edition, bytes))
+        Cv::SALE_GROSS.fault(edition, bytes)?;
+        Cv::SALE_DISCOUNT.fault(edition, bytes)?;
+        Cv::SALE_NET.fault(edition, bytes)?;
+        Cv::CARD.fault(edition, bytes)?;
+        Cv::INSTALMENT.fault(edition, bytes)?;
+        Cv::INSTALMENTS.fault(edition, bytes)?;
+        Cv::INSTALMENT_NSU.fault(edition, bytes)?;
+        Cv::INSTALMENT_GROSS.fault(edition, bytes)?;
+        Cv::INSTALMENT_DISCOUNT.fault(edition, bytes)?;
+        Cv::INSTALMENT_NET.fault(edition, bytes)
     }
 
     // The first fault of the fields from bank to NSEQ.
-    fn bank_fields(edition: u64, bytes: &[u8]) -> Fault
-        ensures { result ≡ first_broken (table_rules edition bytes.now (drop 18 cv_table)) }
+    #[tactic(auto, using(card_content::proofs::Rows::each_field))]
+    fn bank_fields(edition: u64, bytes: &[u8]) -> Result<(), Fault>
+        ensures { result ≡ first_broken (table_rules edition bytes.now bank_table) }
     {
-        Cv::BANK
-            .fault(edition, bytes)
-            .earlier(Cv::BRANCH.fault(edition, bytes))
-            .earlier(Cv::ACCOUNT.fault(edition, bytes))
-            .earlier(Cv::AUTHORISATION.fault(edition, bytes))
-            .earlier(Cv::BRAND.fault(edition, bytes))
-            .earlier(Cv::PRODUCT_CODE.fault(edition, bytes))
-            .earlier(Cv::NSEQ.fault(edition, bytes))
+        Cv::BANK.fault(edition, bytes)?;
+        Cv::BRANCH.fault(edition, bytes)?;
+        Cv::ACCOUNT.fault(edition, bytes)?;
+        Cv::AUTHORISATION.fault(edition, bytes)?;
+        Cv::BRAND.fault(edition, bytes)?;
+        Cv::PRODUCT_CODE.fault(edition, bytes)?;
+        Cv::NSEQ.fault(edition, bytes)
     }
 
     // The first fault of a record of this kind among its width and its fields.
-    pub fn fault(edition: u64, bytes: &[u8]) -> Fault
+    #[tactic(auto, using(crate::proofs::Groups::in_groups))]
+    pub fn fault(edition: u64, bytes: &[u8]) -> Result<(), Fault>
         ensures { result ≡ first_broken (record_rules edition bytes.now 199 cv_table) }
     {
-        if bytes.len() != Cv::WIDTH {
-            return Fault::At(Cause::WrongWidth, 0);
-        }
-        Cv::sale_fields(edition, bytes)
-            .earlier(Cv::amount_fields(edition, bytes))
-            .earlier(Cv::bank_fields(edition, bytes))
+        refusal::rule(Cause::WrongWidth, 0, bytes.len() == Cv::WIDTH)?;
+        Cv::sale_fields(edition, bytes)?;
+        Cv::amount_fields(edition, bytes)?;
+        Cv::bank_fields(edition, bytes)
     }
 
     // The amounts of the sale.
@@ -188,6 +189,7 @@ impl Cv {
     }
 
     // Whether the sale is paid in instalments: the two numbers are not both zero.
+    #[tactic(auto, using(std::proofs::lemmas::Bool::Decides::nat_tests))]
     pub fn has_instalment(self) -> bool
         ensures { result ≡ has_instalment self }
     {
@@ -199,67 +201,33 @@ impl Cv {
         ensures { result ≡ payable self }
     {
         if self.has_instalment() {
-            return self.instalment_amounts;
+            self.instalment_amounts
+        } else {
+            self.sale
         }
-        self.sale
     }
 
     // Whether the two numbers of an instalment go together.
+    #[tactic(auto, using(std::proofs::lemmas::Bool::Decides::nat_tests))]
     fn instalment_right(self) -> bool
         ensures { result ≡ instalment_right self }
     {
-        if !self.has_instalment() {
-            return true;
-        }
-        1 <= self.instalment && self.instalment <= self.instalments
+        !self.has_instalment() || 1 <= self.instalment && self.instalment <= self.instalments
     }
 
     // The first fault of the joined rules that look at this record alone.
-    pub fn joined_fault(self) -> Fault
+    #[tactic(auto, using(std::proofs::lemmas::Bool::Decides::nat_tests), unfolding(crate::specs::Cv::joined_rules, refusal::specs::Rules::first_broken))]
+    pub fn joined_fault(self) -> Result<(), Fault>
         ensures { result ≡ first_broken (joined_rules self) }
     {
         let paid_in = self.has_instalment();
-        let sale = self.sale;
         let amounts = self.instalment_amounts;
-        Cv::INSTALMENT
-            .rule(Cause::ValueNotAllowed, self.instalment_right())
-            .earlier(Cv::INSTALMENT_NSU.rule(
-                Cause::ValueNotAllowed,
-                zero_unless(paid_in, self.instalment_nsu),
-            ))
-            .earlier(Cv::INSTALMENT_GROSS.rule(
-                Cause::ValueNotAllowed,
-                zero_unless(paid_in, amounts.gross),
-            ))
-            .earlier(Cv::INSTALMENT_DISCOUNT.rule(
-                Cause::ValueNotAllowed,
-                zero_unless(paid_in, amounts.discount),
-            ))
-            .earlier(Cv::INSTALMENT_NET.rule(
-                Cause::ValueNotAllowed,
-                zero_unless(paid_in, amounts.net),
-            ))
-            .earlier(Cv::SALE_NET.rule(Cause::AmountsDisagree, sale.agree()))
-            .earlier(Cv::INSTALMENT_NET.rule(Cause::AmountsDisagree, agree_where(paid_in, amounts)))
+        Cv::INSTALMENT.rule(Cause::ValueNotAllowed, self.instalment_right())?;
+        Cv::INSTALMENT_NSU.rule(Cause::ValueNotAllowed, paid_in || self.instalment_nsu == 0)?;
+        Cv::INSTALMENT_GROSS.rule(Cause::ValueNotAllowed, paid_in || amounts.gross == 0)?;
+        Cv::INSTALMENT_DISCOUNT.rule(Cause::ValueNotAllowed, paid_in || amounts.discount == 0)?;
+        Cv::INSTALMENT_NET.rule(Cause::ValueNotAllowed, paid_in || amounts.net == 0)?;
+        Cv::SALE_NET.rule(Cause::AmountsDisagree, self.sale.agree())?;
+        Cv::INSTALMENT_NET.rule(Cause::AmountsDisagree, !paid_in || amounts.agree())
     }
-}
-
-// Whether a number is zero, where it has to be.
-fn zero_unless(excused: bool, number: u64) -> bool
-    ensures { result ≡ excused || eqb number 0 }
-{
-    if excused {
-        return true;
-    }
-    number == 0
-}
-
-// Whether amounts agree, where they have to.
-fn agree_where(asked: bool, amounts: Amounts) -> bool
-    ensures { result ≡ not asked || agreeing amounts }
-{
-    if !asked {
-        return true;
-    }
-    amounts.agree()
 }

@@ -18,7 +18,7 @@ use Rattle.totals.specs.Sum.{top}
 use Rattle.totals.specs.TwoSets.{sets_of, both_sets, summed}
 use Rattle.totals.proofs.Totals.{Figure, sales, gross, discount, net, figure_of, no_loss}
 use Rattle.card_run.specs.declared.answer.Accepted.{Accepted as Numbers}
-use Rattle.card_run.specs.declared.answer.CardAnswer.TheVariants.{Accepted}
+use Rattle.std.specs.Prelude.{Some, Ok}
 use Rattle.card_file.specs.CardFile.{check_of}
 use Rattle.card_kept.specs.Fields.{number_at}
 use Rattle.card_kept.specs.Kept.{Transaction, is_sale, is_forecast, is_settled, Kept, picked, transactions_of, sales_of}
@@ -94,7 +94,7 @@ module _ {edition : ℕ} {bytes : List ℕ} (k : Kept edition bytes) (a : Number
   unfolding sheet_allowed split_allowed
   allowed = both (ap heading_allowed plain_heading_lem ∙ heading_allowed_lem) (both sets_allowed_lem refl)
 
-module _ (edition : ℕ) (bytes : List ℕ) (a : Numbers) (e : check_of edition bytes ≡ Accepted a) where
+module _ (edition : ℕ) (bytes : List ℕ) (a : Numbers) (e : check_of edition bytes ≡ Some (Ok a)) where
   kept : Kept edition bytes
   kept = (kept_means_kept edition bytes).0 (record { numbers = a; answer = e })
 

@@ -1,8 +1,7 @@
 -- The day sheet of a card file: 1 and 22; 2 for an output shorter than 81; the file's own refusals; else its sheet in the first 81 bytes.
-use Rattle.std.specs.Prelude.{ℕ, ◌≡◌, List, ◌++◌, length, drop}
+use Rattle.std.specs.Prelude.{ℕ, ◌≡◌, List, ◌++◌, length, drop, Some, None, Ok, Err}
 use Rattle.card_run.specs.declared.answer.Accepted.{Accepted as Numbers}
-use Rattle.card_run.specs.declared.answer.CardAnswer.{CardAnswer}
-use Rattle.card_run.specs.declared.answer.CardAnswer.TheVariants.{GoingOn, Accepted, Refused}
+use Rattle.card_run.specs.Answer.{CardAnswer}
 use Rattle.card_file.specs.Room.{answer_with_room}
 use Rattle.sheet_numbers.specs.declared.sheet.Sheet.{Sheet}
 use Rattle.sheet_numbers.specs.declared.sheet.Sheet.TheVariants.{Version2}
@@ -17,9 +16,9 @@ sheet_answer edition file room = answer_with_room edition file 81 room
 
 -- what the output then holds; refused, "lent output is unchanged"
 unfoldable pub sheet_into : ℕ → CardAnswer → List ℕ → List ℕ
-sheet_into edition GoingOn out = out
-sheet_into edition (Accepted a) out = bytes_of (sheet_from edition a) ++ drop 81 out
-sheet_into edition (Refused r) out = out
+sheet_into edition None out = out
+sheet_into edition (Some (Ok a)) out = bytes_of (sheet_from edition a) ++ drop 81 out
+sheet_into edition (Some (Err r)) out = out
 
 -- the answer, and the output at the end
 pub record SheetOf (edition : ℕ) (file out : List ℕ) (answer : CardAnswer) (after : List ℕ) : Type 0 where

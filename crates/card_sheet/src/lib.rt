@@ -15,7 +15,6 @@ const KNOWN: u64 = 1;
 pub fn sheet_from(edition: u64, numbers: Accepted) -> Sheet
     ensures { result ≡ sheet_from edition numbers }
 {
-    let sets = numbers.totals;
     Sheet::Version2 {
         heading: Heading {
             edition,
@@ -24,21 +23,19 @@ pub fn sheet_from(edition: u64, numbers: Accepted) -> Sheet
             batches: numbers.batches,
         },
         split: KNOWN,
-        sets,
+        sets: numbers.totals,
     }
 }
 
 // Writes the day sheet of an accepted file into the first 81 bytes of the output; refused, it changes nothing.
+#[tactic(auto, using(crate::proofs::Answers::written), unfolding(crate::specs::SheetOf::sheet_into))]
 pub fn sheet_of(edition: u64, file: &[u8], out: &mut [u8]) -> CardAnswer
     ensures { SheetOf edition file.now out.old result out.new }
 {
     let answer = card_file::room::check_with_room(edition, file, WIDTH_2, out.len());
-    match answer {
-        CardAnswer::GoingOn => answer,
-        CardAnswer::Refused(_) => answer,
-        CardAnswer::Accepted(numbers) => {
-            day_sheet::writer::write(sheet_from(edition, numbers), out);
-            answer
-        }
+    if let Some(Ok(numbers)) = answer {
+        // It is written: the numbers of an accepted file are allowed, and there is room.
+        let _ = day_sheet::writer::write(sheet_from(edition, numbers), out);
     }
+    answer
 }

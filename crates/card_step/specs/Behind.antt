@@ -81,7 +81,7 @@ behind_a9 st = moved Ended (counted st.numbers) st.batch st
 
 unfoldable pub behind : Running → Reading → Running
 behind st unknown = st
-behind st (faulty kind cause column) = st
+behind st (faulty kind fault) = st
 behind st (a0 r) = behind_a0 r st
 behind st (l0 r) = behind_l0 st
 behind st (cv r) = behind_sale r st

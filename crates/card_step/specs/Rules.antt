@@ -39,7 +39,7 @@ trailer_rule column equal = rule_at TrailerDisagrees column equal
 -- "Trailer fields that the document describes as covering adjustments now cover them; where no set is named, the set is CV and AJ"; A9 counts "every record of the file", and sums nothing
 unfoldable pub joined_at : Running → Reading → List Rule
 joined_at st unknown = []
-joined_at st (faulty kind cause column) = []
+joined_at st (faulty kind fault) = []
 joined_at st (a0 r) = nseq_rule st 70 r.nseq ∷ []
 joined_at st (l0 r) = nseq_rule st 13 r.nseq ∷ []
 joined_at st (cv r) = nseq_rule st 194 r.nseq ∷ joined_rules r
@@ -55,7 +55,7 @@ placed_rules st kind own reading = place_rule st kind ∷ (own ++ joined_at st r
 -- that list as reading answers it: of a record's own rules the first that is broken, if any; 4 for a kind that is not read
 unfoldable pub rules_of : Running → Reading → List Rule
 rules_of st unknown = rule_at KindUnknown 1 false ∷ []
-rules_of st (faulty kind cause column) = placed_rules st kind (rule_at cause column false ∷ []) (faulty kind cause column)
+rules_of st (faulty kind fault) = placed_rules st kind (rule_at fault.cause fault.column false ∷ []) (faulty kind fault)
 rules_of st (a0 r) = placed_rules st A0 [] (a0 r)
 rules_of st (l0 r) = placed_rules st L0 [] (l0 r)
 rules_of st (cv r) = placed_rules st Cv [] (cv r)

@@ -1,7 +1,6 @@
 -- One step: what a record, taken at its place, makes of the state.
-use Rattle.std.specs.Prelude.{cond}
-use Rattle.refusal.specs.declared.Fault.{Fault}
-use Rattle.refusal.specs.declared.Fault.TheVariants.{Nothing, At}
+use Rattle.std.specs.Prelude.{cond, Ok, Err}
+use Rattle.refusal.specs.Fault.{Judged}
 use Rattle.refusal.specs.Rules.{first_broken}
 use Rattle.card_record.specs.declared.reading.Reading.{Reading}
 use Rattle.card_run.specs.declared.stage.Stage.{Stage}
@@ -12,9 +11,9 @@ use Rattle.card_step.specs.Rules.{rules_of}
 use Rattle.card_step.specs.Behind.{behind}
 
 -- refused at the first fault, or behind the record
-unfoldable pub behind_or_refused : Running → Reading → Fault → Running
-behind_or_refused st reading Nothing = behind st reading
-behind_or_refused st reading (At cause column) = refused_at cause column st
+unfoldable pub behind_or_refused : Running → Reading → Judged → Running
+behind_or_refused st reading (Ok none) = behind st reading
+behind_or_refused st reading (Err fault) = refused_at fault.cause fault.column st
 
 abbrev pub judged_of : Running → Reading → Running
 judged_of st reading = behind_or_refused st reading (first_broken (rules_of st reading))

@@ -49,10 +49,8 @@ fn headed(numbers: Accepted, a0: A0) -> Accepted
 fn sold(numbers: Accepted, forecast: bool, sale: Totals) -> Accepted
     ensures { result ≡ sold forecast sale numbers }
 {
-    let sets = numbers.totals;
-    let totals_now = sets.one_more(forecast, sale);
     let mut next = numbers;
-    next.totals = totals_now;
+    next.totals = numbers.totals.one_more(forecast, sale);
     next
 }
 
@@ -60,10 +58,8 @@ fn sold(numbers: Accepted, forecast: bool, sale: Totals) -> Accepted
 fn credited(numbers: Accepted, net: u64) -> Accepted
     ensures { result ≡ credited net numbers }
 {
-    let credits = numbers.credits;
-    let credits_now = credits.one_more(net);
     let mut next = numbers;
-    next.credits = credits_now;
+    next.credits = numbers.credits.one_more(net);
     next
 }
 
@@ -71,10 +67,8 @@ fn credited(numbers: Accepted, net: u64) -> Accepted
 fn debited(numbers: Accepted, net: u64) -> Accepted
     ensures { result ≡ debited net numbers }
 {
-    let debits = numbers.debits;
-    let debits_now = debits.one_more(net);
     let mut next = numbers;
-    next.debits = debits_now;
+    next.debits = numbers.debits.one_more(net);
     next
 }
 
@@ -91,17 +85,18 @@ fn one_batch_more(numbers: Accepted) -> Accepted
 fn behind_a0(state: Running, a0: A0) -> Running
     ensures { result ≡ behind_a0 a0 state }
 {
-    let numbers = state.numbers;
-    let batch = state.batch;
-    state.moved(Stage::BetweenBatches, headed(counted(numbers), a0), batch)
+    state.moved(
+        Stage::BetweenBatches,
+        headed(counted(state.numbers), a0),
+        state.batch,
+    )
 }
 
 // Behind L0: a batch of no transaction.
 fn behind_l0(state: Running) -> Running
     ensures { result ≡ behind_l0 state }
 {
-    let numbers = state.numbers;
-    state.moved(Stage::InBatch, counted(numbers), OpenBatch::none())
+    state.moved(Stage::InBatch, counted(state.numbers), OpenBatch::none())
 }
 
 // Behind a sale: one more, of what is payable.
@@ -109,12 +104,14 @@ fn behind_sale(state: Running, cv: Cv) -> Running
     ensures { result ≡ behind_sale cv state }
 {
     let payable = cv.payable_amounts();
-    let numbers = state.numbers;
-    let batch = state.batch;
     state.moved(
         Stage::InBatch,
-        sold(counted(numbers), cv.is_forecast(), Totals::of_sale(payable)),
-        batch.with_added(payable.gross),
+        sold(
+            counted(state.numbers),
+            cv.is_forecast(),
+            Totals::of_sale(payable),
+        ),
+        state.batch.with_added(payable.gross),
     )
 }
 
@@ -122,20 +119,19 @@ fn behind_sale(state: Running, cv: Cv) -> Running
 fn behind_adjustment(state: Running, aj: Aj) -> Running
     ensures { result ≡ behind_adjustment aj state }
 {
-    let amounts = aj.amounts;
-    let numbers = state.numbers;
-    let batch = state.batch;
+    let net = aj.amounts.net;
+    let numbers = counted(state.numbers);
     if aj.is_credit() {
         return state.moved(
             Stage::InBatch,
-            credited(counted(numbers), amounts.net),
-            batch.with_added(amounts.net),
+            credited(numbers, net),
+            state.batch.with_added(net),
         );
     }
     state.moved(
         Stage::InBatch,
-        debited(counted(numbers), amounts.net),
-        batch.with_taken(amounts.net),
+        debited(numbers, net),
+        state.batch.with_taken(net),
     )
 }
 
@@ -143,12 +139,10 @@ fn behind_adjustment(state: Running, aj: Aj) -> Running
 fn behind_l9(state: Running) -> Running
     ensures { result ≡ behind_l9 state }
 {
-    let numbers = state.numbers;
-    let batch = state.batch;
     state.moved(
         Stage::BetweenBatches,
-        one_batch_more(counted(numbers)),
-        batch,
+        one_batch_more(counted(state.numbers)),
+        state.batch,
     )
 }
 
@@ -156,18 +150,16 @@ fn behind_l9(state: Running) -> Running
 fn behind_a9(state: Running) -> Running
     ensures { result ≡ behind_a9 state }
 {
-    let numbers = state.numbers;
-    let batch = state.batch;
-    state.moved(Stage::Ended, counted(numbers), batch)
+    state.moved(Stage::Ended, counted(state.numbers), state.batch)
 }
 
 // Behind what reading answered.
+#[tactic(auto, unfolding(crate::specs::Behind::behind))]
 pub(crate) fn behind(state: Running, reading: Reading) -> Running
     ensures { result ≡ behind state reading }
 {
     match reading {
-        Reading::Unknown => state,
-        Reading::Faulty(_, _, _) => state,
+        Reading::Unknown | Reading::Faulty(_, _) => state,
         Reading::A0(a0) => behind_a0(state, a0),
         Reading::L0(_) => behind_l0(state),
         Reading::Cv(cv) => behind_sale(state, cv),

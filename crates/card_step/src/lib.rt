@@ -6,27 +6,27 @@ ghost use Rattle.card_step.specs.Step.{judged_of, took_of};
 
 use card_record::reading::Reading;
 use card_run::running::Running;
-use refusal::Fault;
 
 mod behind;
 mod fault;
 
 // Refused, or behind the record.
+#[tactic(auto, unfolding(crate::specs::Step::behind_or_refused))]
 fn judged(state: Running, reading: Reading) -> Running
     ensures { result ≡ judged_of state reading }
 {
     match fault::fault(state, reading) {
-        Fault::Nothing => behind::behind(state, reading),
-        Fault::At(cause, column) => state.refused(cause, column),
+        Ok(()) => behind::behind(state, reading),
+        Err(fault) => state.refused(fault.cause, fault.column),
     }
 }
 
 // Takes what reading answered of the next record. (It is judged in one place, so that the compiler keeps the state where it is.)
+#[tactic(auto, unfolding(crate::specs::Step::took_at))]
 pub fn took(state: Running, reading: Reading) -> Running
     ensures { result ≡ took_of state reading }
 {
-    let stage = state.stage;
-    if stage.is_open() {
+    if state.stage.is_open() {
         return judged(state, reading);
     }
     state.late()

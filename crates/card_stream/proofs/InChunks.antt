@@ -7,10 +7,10 @@ use native.Mathlib.Omega.{arith}
 use lib.ListN.{length}
 use Rattle.lines.specs.Lines.{cut}
 use Rattle.chunks.specs.Unfinished.{one_more, clipped_with, clipped}
-use Rattle.chunks.specs.Chunks.{Run, start_of, ran_over, joined_chunks}
+use Rattle.chunks.specs.Chunks.{Run, start_of, ran_over, joined_chunks, LooksNoFurther}
 use Rattle.chunks.proofs.Clipped.{clipped_some}
 use Rattle.chunks.proofs.Held.{held_back}
-use Rattle.chunks.proofs.Streams.{LooksNoFurther, all_chunks}
+use Rattle.chunks.proofs.Streams.{all_chunks}
 use Rattle.card_run.specs.declared.running.Running.{Running}
 use Rattle.card_run.specs.Running.{open_of as opened}
 use Rattle.card_run.specs.Answer.{answer_of as answered}

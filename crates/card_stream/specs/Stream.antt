@@ -1,15 +1,13 @@
 -- A card file in chunks: a state, and what is held of the record that has not ended.
 use Rattle.std.specs.Prelude.{ℕ, List, [], ◌∷◌}
 use Rattle.refusal.specs.declared.Cause.TheVariants.{BytesAfterTheEnd}
-use Rattle.lines.specs.Lines.{cut}
 use Rattle.chunks.specs.Unfinished.{held_by, holding}
-use Rattle.chunks.specs.Chunks.{Run, start_of, ran_lines, ran_over}
+use Rattle.chunks.specs.Chunks.{Run, start_of, ran_over}
 use Rattle.card_run.specs.declared.stage.Stage.{Stage}
 use Rattle.card_run.specs.declared.stage.Stage.TheVariants.{Start, BetweenBatches, InBatch, Ended, Closed, Refused}
 use Rattle.card_run.specs.declared.running.Running.{Running}
-use Rattle.card_run.specs.declared.answer.CardAnswer.{CardAnswer}
 use Rattle.card_run.specs.Running.{open_of as opened, refused_at}
-use Rattle.card_run.specs.Answer.{answer_of as answered}
+use Rattle.card_run.specs.Answer.{answer_of as answered, CardAnswer}
 use Rattle.card_file.specs.CardFile.{line_of, end_of}
 use Rattle.card_stream.specs.declared.Stream.{Stream}
 
@@ -27,10 +25,6 @@ open_of edition = stream_of (start_of (opened edition))
 -- the next bytes: each piece before an LF is taken as reading the whole takes it
 abbrev pub taken_of : Stream → List ℕ → Stream
 taken_of s chunk = stream_of (ran_over line_of (run_of s) chunk)
-
--- bytes behind a line end, from a state on
-abbrev pub lines_taken : Running → List ℕ → Stream
-lines_taken st bytes = stream_of (ran_lines line_of st (cut bytes))
 
 -- the end: what is left is taken as reading the whole takes it
 abbrev pub ended_of : Stream → Stream

@@ -1,6 +1,5 @@
-pub mod Counted
+pub mod Chunks
 pub mod Numbers
 pub mod Parts
 pub mod Pattern
-pub mod Rows
 pub mod Sizes

@@ -1,10 +1,6 @@
--- Laws of the pattern that fills an output: its first byte, the next one, and the whole.
+-- Laws of the pattern that fills an output: one more byte, and the one behind it.
 use Rattle.std.proofs.Common.{◌≡◌, ℕ, ◌+◌, ◌%◌, ◌<◌, ◌≤◌, List, length, take, set, sym, refl, ap, ◌∙◌, add-one, arith, take_all, take-suc-set}
 use Rattle.cases.specs.Output.{pattern, pattern_at}
-
-pub first : (s : List ℕ) → take 0 s ≡ pattern 0
-unfolding pattern
-first s = refl
 
 -- one more byte behind those that are filled
 pub more : (s : List ℕ) (i b : ℕ) → i < length s → b ≡ pattern_at i → take i s ≡ pattern i → take (i + 1) (set s i b) ≡ pattern (i + 1)
@@ -14,9 +10,3 @@ more s i b l e h = rw (add-one, take-suc-set s i b l, h, e)
 -- the byte behind it
 pub next : (i b : ℕ) → b ≡ pattern_at i → (b + 7) % 256 ≡ pattern_at (i + 1)
 next i b e = omega arith
-
--- all of it
-pub all : (s : List ℕ) (n i : ℕ) → i ≤ length s → length s ≤ i → length s ≡ n → take i s ≡ pattern i → s ≡ pattern n
-all s n i l g e h =
-    let whole : i ≡ n = omega arith in
-    sym (take_all i s g) ∙ h ∙ ap pattern whole

@@ -1,8 +1,7 @@
 -- The numbers of a card file's answer in a row, by which two answers are compared.
 use Rattle.std.specs.Prelude.{ℕ, List, [], ◌∷◌, ◌++◌}
 use Rattle.totals.specs.declared.amounts.Totals.{Totals}
-use Rattle.card_run.specs.Answer.{CardFileRow, card_file_row}
-use Rattle.card_run.specs.declared.answer.CardAnswer.{CardAnswer}
+use Rattle.card_run.specs.Answer.{CardAnswer, CardFileRow, card_file_row}
 
 -- the four numbers of totals
 abbrev pub totals_as_list : Totals → List ℕ

@@ -2,7 +2,7 @@
 use crate::print;
 use card_run::adjusted::Adjusted;
 use card_run::answer::{Accepted, CardAnswer};
-use refusal::Refusal;
+use refusal::{Answer, Progress, Refusal};
 use totals::amounts::Totals;
 use totals::two_sets::TwoSets;
 
@@ -33,6 +33,26 @@ pub fn print_refusal(refusal: Refusal) {
     next_number(cause.number());
     next_number(refusal.record);
     next_number(refusal.column);
+}
+
+// An answer: what is printed of what was accepted, or its refusal.
+pub fn print_answer<A: Copy, F: FnOnce(A)>(answer: Answer<A>, print_accepted: F)
+    requires { F.IsAlwaysCallable print_accepted }
+{
+    match answer {
+        Ok(accepted) => print_accepted(accepted),
+        Err(refusal) => print_refusal(refusal),
+    }
+}
+
+// The same of an answer so far; `-` where there is none yet.
+pub fn print_progress<A: Copy, F: FnOnce(A)>(progress: Progress<A>, print_accepted: F)
+    requires { F.IsAlwaysCallable print_accepted }
+{
+    match progress {
+        Some(answer) => print_answer(answer, print_accepted),
+        None => print::byte(b'-'),
+    }
 }
 
 // `A date movement records batches fsales fgross fdiscount fnet ssales sgross sdiscount snet credits creditnet debits debitnet`: forecast, settled, adjustments.
@@ -67,13 +87,9 @@ fn next_adjusted(adjusted: Adjusted) {
     next_number(adjusted.net);
 }
 
-// The answer of a card file; `-` where there is none yet.
+// The answer of a card file.
 pub fn print_card_answer(answer: CardAnswer) {
-    match answer {
-        CardAnswer::GoingOn => print::byte(b'-'),
-        CardAnswer::Accepted(accepted) => print_accepted(accepted),
-        CardAnswer::Refused(refusal) => print_refusal(refusal),
-    }
+    print_progress(answer, print_accepted);
 }
 
 // ` n cuts alike`, and the line's end.

@@ -24,19 +24,19 @@ pub const LENGTH_BYTES: u64 = 4;
 const ROOM_FOR_A_BYTE: u64 = 72_057_594_037_927_936;
 
 // The number of a row of bytes; of more than eight, that of the last eight.
+#[tactic(auto, using(crate::proofs::Numbers::byte_more, crate::proofs::Numbers::bytes_end))]
 fn high_first(bytes: &[u8]) -> u64
     ensures { result ≡ high_first 0 bytes.now }
 {
     let mut number: u64 = 0;
-    let mut i = 0;
-    while i < bytes.len() {
-        number = number % ROOM_FOR_A_BYTE * 256 + bytes[i] as u64;
-        i += 1;
+    for byte in bytes {
+        number = number % ROOM_FOR_A_BYTE * 256 + *byte as u64;
     }
     number
 }
 
 // So many bytes from a place on, as far as there are any.
+#[tactic(auto, unfolding(crate::specs::Cursor::PartAt))]
 fn bytes_at(cases: &[u8], at: usize, size: u64) -> &[u8]
     ensures { PartAt cases.entry at size result }
 {
@@ -46,6 +46,7 @@ fn bytes_at(cases: &[u8], at: usize, size: u64) -> &[u8]
 }
 
 // The number of so many bytes that stands at a place.
+#[tactic(auto, unfolding(crate::specs::Cursor::PartAt))]
 pub fn number_at(cases: &[u8], at: usize, size: u64) -> Number
     ensures { NumberAt cases.now at size result }
 {

@@ -1,6 +1,6 @@
 // Where a file is cut into chunks: at places that look random, and are the same each time.
-ghost use Rattle.std.specs.Prelude.{◌≡◌};
-ghost use Rattle.cases.specs.Cuts.{next_of, size_of, cut_behind};
+ghost use Rattle.std.specs.Prelude.{◌≡◌, ℕ, ◌+◌, ◌≤◌, Bool, cond, List, length};
+ghost use Rattle.cases.specs.Cuts.{next_of, size_of, cut_behind, Takes};
 ghost use Rattle.cases.specs.Hash.{hash_from};
 
 use crate::hash;
@@ -44,6 +44,7 @@ impl Cuts {
     }
 
     // How many bytes the next chunk has, 0 to 361.
+    #[tactic(auto, using(crate::proofs::Sizes::size_range), unfolding(crate::specs::Cuts::size_of))]
     fn size(self) -> usize
         ensures { result ≡ size_of self.state }
     {
@@ -56,13 +57,47 @@ impl Cuts {
     pub fn behind(self, at: usize, length: usize) -> usize
         ensures { result ≡ cut_behind self.state at length }
     {
-        let size = self.size();
-        if length < at {
-            return length;
-        }
-        if length - at < size {
-            return length;
-        }
-        at + size
+        at.saturating_add(self.size()).min(length)
     }
+}
+
+// Hands a file over in chunks that are cut at places that look random. There are as many chunks as bytes, and those behind the last byte are empty.
+pub fn in_chunks<S: Copy, F: Fn(S, &[u8]) -> S>(first: S, file: &[u8], take: F) -> S
+    requires { F.IsAlwaysCallable take }
+    ensures { (taken : S → List ℕ → S) → Takes (λ s chunk r. F.post take s chunk r) taken → result ≡ taken first file.now }
+{
+    let mut state = first;
+    let mut cuts = Cuts::of(file);
+    let mut at = 0;
+    for _ in 0..file.len() {
+        cuts = cuts.next();
+        let end = cuts.behind(at, file.len());
+        state = take(state, &file[at..end]);
+        at = end;
+    }
+    take(state, &file[at..])
+}
+
+// Hands a file over that is cut in two at a place.
+pub fn in_two<S: Copy, F: Fn(S, &[u8]) -> S>(first: S, file: &[u8], place: usize, take: F) -> S
+    requires callable { F.IsAlwaysCallable take }
+    requires within { place ≤ length file.now }
+    ensures { (taken : S → List ℕ → S) → Takes (λ s chunk r. F.post take s chunk r) taken → result ≡ taken first file.now }
+{
+    let front = take(first, &file[..place]);
+    take(front, &file[place..])
+}
+
+// How many of all the cuts of a file in two pass a test.
+pub fn how_many<F: Fn(usize) -> bool>(file: &[u8], test: F) -> u64
+    requires { (place : ℕ) → place ≤ length file.now → F.pre test place }
+    ensures { (all : Bool) → ((place : ℕ) (answer : Bool) → place ≤ length file.now → F.post test place answer → answer ≡ all) → result ≡ cond all (length file.now + 1) 0 }
+{
+    let mut passed = 0;
+    for place in 0..file.len() + 1 {
+        if test(place) {
+            passed += 1;
+        }
+    }
+    passed
 }

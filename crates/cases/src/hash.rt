@@ -6,14 +6,13 @@ ghost use Rattle.cases.specs.Hash.{hash_from};
 const MODULUS: u64 = 4294967296;
 
 // The hash of all the bytes.
+#[tactic(auto, using(crate::proofs::Numbers::hash_more, crate::proofs::Numbers::hash_end))]
 pub fn hash(bytes: &[u8]) -> u64
     ensures { result ≡ hash_from 0 bytes.now }
 {
     let mut h: u64 = 0;
-    let mut i = 0;
-    while i < bytes.len() {
-        h = (h * 31 + bytes[i] as u64) % MODULUS;
-        i += 1;
+    for byte in bytes {
+        h = (h * 31 + *byte as u64) % MODULUS;
     }
     h
 }

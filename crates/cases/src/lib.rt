@@ -6,6 +6,7 @@ pub mod cursor;
 pub mod cuts;
 pub mod file;
 pub mod hash;
+pub mod layout;
 pub mod output;
 pub mod print;
 pub mod row;

@@ -1,5 +1,5 @@
 // The outputs that cases write into.
-ghost use Rattle.std.specs.Prelude.{◌≡◌, length};
+ghost use Rattle.std.specs.Prelude.{◌≡◌, ◌^◌, ◌<◌, length};
 ghost use Rattle.cases.specs.Output.{pattern};
 
 use crate::print;
@@ -10,19 +10,32 @@ const FIRST: u8 = 3;
 const STEP: u8 = 7;
 
 // Fills an output as every case finds it: byte i is (i * 7 + 3) mod 256.
+#[tactic(auto, using(crate::proofs::Pattern::more, crate::proofs::Pattern::next), unfolding(crate::specs::Output::pattern))]
 pub fn fill(out: &mut [u8])
     ensures { out.new ≡ pattern (length out.old) }
 {
     let mut byte = FIRST;
-    let mut i = 0;
-    while i < out.len() {
-        out[i] = byte;
-        byte = std::num::wrapping_add_u8(byte, STEP);
-        i += 1;
+    for place in out.iter_mut() {
+        *place = byte;
+        byte = byte.wrapping_add(STEP);
     }
 }
 
 // Says that a case asks for a longer output than there is room for.
 pub fn print_too_long() {
     print::text(b"an output is too long\n");
+}
+
+// Lends an output of so many bytes, of ROOM or less, or says that it is too long.
+pub fn lend<const ROOM: usize, F: FnOnce(&mut [u8])>(size: u64, work: F)
+    requires small { ROOM < 2 ^ 63 }
+    requires callable { F.IsAlwaysCallable work }
+{
+    let mut room = [0; ROOM];
+    let size = size as usize;
+    if ROOM < size {
+        print_too_long();
+    } else {
+        work(&mut room[..size]);
+    }
 }

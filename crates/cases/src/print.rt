@@ -1,5 +1,5 @@
 // Printing on standard output. No contract can say what is written.
-use files::writing::STDOUT;
+const STDOUT: i32 = 1;
 
 pub fn text(bytes: &[u8]) {
     io::write_all(STDOUT, bytes);
@@ -17,10 +17,8 @@ pub fn number(n: u64) {
 }
 
 fn zeros(count: usize) {
-    let mut left = count;
-    while left > 0 {
+    for _ in 0..count {
         byte(b'0');
-        left -= 1;
     }
 }
 
@@ -28,17 +26,13 @@ fn zeros(count: usize) {
 pub fn padded(n: u64, width: usize) {
     let mut digits = [0u8; 20];
     let count = io::decimal(n, &mut digits);
-    if count < width {
-        zeros(width - count);
-    }
+    zeros(width.saturating_sub(count));
     text(&digits[..count]);
 }
 
 // Bytes in hex, two digits each.
 pub fn hex(bytes: &[u8]) {
-    let mut i = 0;
-    while i < bytes.len() {
-        io::print_hex(STDOUT, bytes[i] as u64, 2);
-        i += 1;
+    for byte in bytes {
+        io::print_hex(STDOUT, *byte as u64, 2);
     }
 }

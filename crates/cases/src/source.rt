@@ -1,21 +1,22 @@
-// The files of cases that a test program runs, and how.
+// The files of cases that a test program runs.
 ghost use Rattle.io.specs.Counts.{IsPrefixLen};
+ghost use Rattle.cases.specs.Layout.{HasBytes};
 
+use crate::layout::Layout;
 use crate::{file, print};
+
+// The ways in which a library is given a file, as titles tell them.
+pub const WHOLE: &[u8] = b"";
+
+pub const IN_CHUNKS: &[u8] = b", in chunks";
+
+pub const CUT_AT_EVERY_PLACE: &[u8] = b", cut at every place";
 
 // Where cases come from.
 #[derive(Clone, Copy)]
 pub enum Source {
     Outside,
     Own,
-}
-
-// How a file is given to the library.
-#[derive(Clone, Copy)]
-pub enum Way {
-    Whole,
-    InChunks,
-    CutAtEveryPlace,
 }
 
 impl Source {
@@ -26,10 +27,10 @@ impl Source {
         }
     }
 
-    // Prints the line above the answers of its cases, where they are run in this way.
-    pub fn print_title(self, way: Way) {
+    // Prints the line above the answers of its cases: its name, and the way in which they are run.
+    pub fn print_title(self, way: &[u8]) {
         self.print_name();
-        way.print_name();
+        print::text(way);
         print::byte(b'\n');
     }
 
@@ -42,14 +43,21 @@ impl Source {
             Source::Own => file::load(rt, b"own.cases", buffer),
         }
     }
-}
 
-impl Way {
-    fn print_name(self) {
-        match self {
-            Way::Whole => {}
-            Way::InChunks => print::text(b", in chunks"),
-            Way::CutAtEveryPlace => print::text(b", cut at every place"),
-        }
+    // Prints its title, and what is to be printed of each of its cases.
+    pub fn print_cases<F: Fn([u64; 2], &[u8])>(
+        self,
+        rt: &HostRuntime,
+        way: &[u8],
+        layout: Layout,
+        print: F,
+    )
+        requires has_bytes { HasBytes layout.size }
+        requires callable { F.IsAlwaysCallable print }
+    {
+        let mut buffer = file::room();
+        self.print_title(way);
+        let size = self.load(rt, &mut buffer);
+        layout.print_cases(&buffer[..size], print);
     }
 }

@@ -5,12 +5,12 @@ use mathlib.Core.List.{List, [], ◌∷◌, ◌++◌, append-nil, append_assoc}
 use mathlib.Core.Bool.{Bool, true, false}
 use native.Mathlib.Numerals.{add-one}
 use native.Mathlib.Omega.{arith}
-use lib.ListN.{length, take, drop, set, get_or, replicate, length-append, length-take, length-replicate, length-drop, drop_of_length-le, take-append-drop}
+use lib.ListN.{length, take, drop, set, get_or, replicate, length-append, length-take, length-replicate, drop_of_length-le}
 use lib.Seq.{take_all, take-append_seam, set_at, set_split, drop-cons}
 use lib.Dec.{leb}
 use borrow.Author.Tests.{leb-true, leb-false}
 use Rattle.chunks.specs.declared.Unfinished.{Unfinished}
-use Rattle.chunks.specs.Unfinished.{one_more, clipped_with, clipped, held_by, holding}
+use Rattle.chunks.specs.Unfinished.{one_more, clipped_with, held_by, holding}
 use Rattle.chunks.proofs.Clipped.{one_longer}
 
 -- what it was made to hold
@@ -52,15 +52,6 @@ byte_put h b l = one (leb (length h) 241) refl
     one true e = where_room h b (leb-true (length h) 241 e)
     one false e = where_full h b (omega (arith, leb-false (length h) 241 e, l))
 
--- as many bytes of its buffer as it holds
-pub held_part : (u : Unfinished) {n : ℕ} → n ≡ length (held_by u) → take n u.bytes ≡ held_by u
-held_part u e =
-    ap₂ (λ (n : ℕ) (l : List ℕ). take n l) e (sym (take-append-drop u.length u.bytes)) ∙
-    take-append_seam (held_by u) (drop u.length u.bytes)
-
-pub held_inside : (u : Unfinished) {n : ℕ} → n ≡ length (held_by u) → n ≤ length u.bytes
-held_inside u e = omega (arith, length-take u.length u.bytes)
-
 -- a state with zeros behind what it holds
 abbrev pub Clean : Unfinished → Type 0
 Clean u = u ≡ holding (held_by u)
@@ -92,10 +83,3 @@ put_next u place part i p h e l =
 pub all_put : (u : Unfinished) (part : List ℕ) (i : ℕ) → length part ≤ i → held_by u ≡ clipped_with (held_by u) (drop i part)
 unfolding clipped_with
 all_put u part i h = rw (drop_of_length-le part h)
-
--- behind nothing, the bytes from a place on are held by themselves
-pub behind_none : (at : ℕ) (s : List ℕ) {u next : Unfinished} → u ≡ holding [] → next ≡ holding (clipped (held_by u ++ take (length s - at) (drop at s))) →
-    next ≡ holding (clipped (drop at s))
-behind_none at s e f =
-    let all = take_all (length s - at) (drop at s) (omega (arith, length-drop at s)) in
-    f ∙ ap₂ (λ (h t : List ℕ). holding (clipped (h ++ t))) (ap held_by e ∙ held_back []) all

@@ -9,7 +9,7 @@ use Rattle.lines.specs.Lines.{Lines, lf, cut, in_front, no_lf}
 use Rattle.lines.proofs.Cuts.{pieces_then, cut_is_cut, cut_rejoined}
 use Rattle.lines.proofs.Finished.{rejoined_behind}
 use Rattle.chunks.specs.Unfinished.{clipped_with, clipped}
-use Rattle.chunks.specs.Chunks.{Run, start_of, held_before, ran_lines, ran_over, joined_chunks}
+use Rattle.chunks.specs.Chunks.{Run, start_of, held_before, ran_lines, ran_over, joined_chunks, LooksNoFurther}
 use Rattle.chunks.proofs.Clipped.{clipped_again, clipped_behind}
 
 -- bytes without LF stand before the cut of what follows
@@ -44,10 +44,6 @@ cut_on a b =
 
 cut_behind_lem : (a b : List ℕ) → cut (a ++ b) ≡ pieces_then (cut a).pieces (held_before (cut a).rest (cut b).pieces (cut b).rest)
 cut_behind_lem a b = cut_on a b ∙ ap (pieces_then (cut a).pieces) (cut_before (cut a).rest b (cut_is_cut a).rest_clear)
-
--- a step that looks no further into a piece than what is held of it
-abbrev pub LooksNoFurther : {S A : Type 0} → (S → List ℕ → A) → Type 0
-LooksNoFurther {S} step = (st : S) (p : List ℕ) → step st (clipped p) ≡ step st p
 
 module _ {S : Type 0} (step : S → List ℕ → S) (no_further : LooksNoFurther step) where
   -- two fronts of which the same is held make the same of what follows

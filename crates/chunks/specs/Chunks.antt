@@ -1,5 +1,5 @@
 -- A file in chunks, over a step that takes one piece and is not looked into: a run holds a state, and what is held of the piece that has not ended.
-use Rattle.std.specs.Prelude.{ℕ}
+use Rattle.std.specs.Prelude.{ℕ, ◌≡◌}
 use mathlib.Core.List.{List, [], ◌∷◌, ◌++◌, foldl}
 use Rattle.lines.specs.Lines.{Lines, cut}
 use Rattle.chunks.specs.Unfinished.{clipped}
@@ -29,3 +29,7 @@ ran_over step run chunk = ran_lines step run.state (held_before run.held (cut ch
 unfoldable pub joined_chunks : List (List ℕ) → List ℕ
 joined_chunks [] = []
 joined_chunks (c ∷ cs) = c ++ joined_chunks cs
+
+-- a step that looks no further into a piece than what is held of it
+abbrev pub LooksNoFurther : {S A : Type 0} → (S → List ℕ → A) → Type 0
+LooksNoFurther {S} step = (st : S) (p : List ℕ) → step st (clipped p) ≡ step st p

@@ -1,3 +1,4 @@
 pub mod Unfinished
 pub mod Chunks
 pub mod Waiting
+pub mod Held

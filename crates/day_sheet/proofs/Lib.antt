@@ -4,7 +4,6 @@ pub mod Filling
 pub mod NextPlace
 pub mod Readings
 pub mod Writings
-pub mod Conversions
 pub mod Tables
 pub mod RoundTrip
 pub mod ThereAndBack

@@ -7,21 +7,19 @@ use native.Mathlib.Omega.{arith}
 use borrow.Author.Tests.{eq-eqb, ne_eqb, eqb-true}
 use lib.ListN.{length, get_or, take, drop, replicate}
 use lib.Dec.{lit≤, eqb}
+use Rattle.std.specs.Prelude.{Ok}
 use Rattle.text.specs.Literal.{ascii, same_bytes}
 use Rattle.text.proofs.Alphabets.{both_left}
-use Rattle.refusal.specs.declared.Cause.TheVariants.{NotADaySheet, SheetVersionUnknown, SheetNumbersNotAllowed}
-use Rattle.refusal.specs.Nowhere.{nowhere}
 use Rattle.day_sheet.specs.declared.layout.Place.{Place}
 use Rattle.day_sheet.specs.declared.layout.Version.{Version}
 use Rattle.day_sheet.specs.declared.layout.Version.TheVariants.{One, Two}
 use Rattle.sheet_numbers.specs.declared.sheet.Sheet.{Sheet}
-use Rattle.day_sheet.specs.declared.reader.SheetRead.TheVariants.{Read, Refused}
 use Rattle.day_sheet.specs.Version.{number_of, width_of, places_of}
 use Rattle.day_sheet.specs.Layout.{table_of, table_width, from_places, digits_right}
 use Rattle.day_sheet.specs.FirstPlaces.{first_places, RoomFor}
 use Rattle.day_sheet.specs.Sheet.{sheet_of}
 use Rattle.sheet_numbers.specs.Allowed.{sheet_allowed}
-use Rattle.day_sheet.specs.Reading.{is_marked, numbers_in, sheet_in, read_as, read_of}
+use Rattle.day_sheet.specs.Reading.{is_marked, numbers_in, sheet_in, read_as}
 
 -- a version's table is the first places of the longer one, and its bytes have room for them
 pub its_places : (v : Version) → first_places (places_of v) ≡ table_of v
@@ -82,21 +80,8 @@ module _ (v : Version) (s : List ℕ) where
   pub digits_in : {n : ℕ} → n ≡ places_of v → digits_right (first_places n) (drop 3 s) ≡ digits_right (table_of v) (drop 3 s)
   digits_in e = ap (λ (ps : List Place). digits_right ps (drop 3 s)) (ap first_places e ∙ its_places v)
 
-  pub another_version : (get_or (numbers_in v s) 0 0 ≡ number_of v → ⊥) → read_as v s ≡ Refused (nowhere SheetVersionUnknown)
-  unfolding read_as
-  another_version e = rw (ne_eqb _ _ e)
-
-  pub no_digits_lem : get_or (numbers_in v s) 0 0 ≡ number_of v → digits_right (table_of v) (drop 3 s) ≡ false → read_as v s ≡ Refused (nowhere SheetNumbersNotAllowed)
-  unfolding read_as
-  no_digits_lem e d = rw (eq-eqb _ _ e, d)
-
-  pub not_allowed : get_or (numbers_in v s) 0 0 ≡ number_of v → digits_right (table_of v) (drop 3 s) ≡ true → sheet_allowed (sheet_in v s) ≡ false →
-      read_as v s ≡ Refused (nowhere SheetNumbersNotAllowed)
-  unfolding read_as
-  not_allowed e d a = rw (eq-eqb _ _ e, d, a)
-
   pub allowed : get_or (numbers_in v s) 0 0 ≡ number_of v → digits_right (table_of v) (drop 3 s) ≡ true → sheet_allowed (sheet_in v s) ≡ true →
-      read_as v s ≡ Read (sheet_in v s)
+      read_as v s ≡ Ok (sheet_in v s)
   unfolding read_as
   allowed e d a = rw (eq-eqb _ _ e, d, a)
 
@@ -108,15 +93,3 @@ module _ (s : List ℕ) where
       by : (b : Bool) → b ≡ false → b || eqb (length s) 81 ≡ true → length s ≡ 81
       by true e f = absurd (false≢true (sym e))
       by false e f = eqb-true _ _ f
-
-  pub read_one : is_marked s ≡ true → length s ≡ 52 → read_of s ≡ read_as One s
-  unfolding read_of
-  read_one m e = rw (m, eq-eqb _ _ e)
-
-  pub read_two : is_marked s ≡ true → (length s ≡ 52 → ⊥) → read_of s ≡ read_as Two s
-  unfolding read_of
-  read_two m e = rw (m, ne_eqb _ _ e)
-
-  pub no_sheet_lem : is_marked s ≡ false → read_of s ≡ Refused (nowhere NotADaySheet)
-  unfolding read_of
-  no_sheet_lem m = rw m

@@ -9,6 +9,7 @@ use lib.ListN.{length, get_or, take, drop, length-drop, take-append-drop}
 use lib.Seq.{take_all}
 use lib.Dec.{lit<, eqb}
 use lib.Pow.{are_bytes}
+use Rattle.std.specs.Prelude.{Ok, Err}
 use Rattle.refusal.specs.declared.Refusal.{Refusal}
 use Rattle.text.specs.Literal.{ascii, same_bytes}
 use Rattle.text.proofs.Alphabets.{both_left, both_right}
@@ -21,7 +22,6 @@ use Rattle.day_sheet.specs.declared.layout.Version.TheVariants.{One, Two}
 use Rattle.sheet_numbers.specs.declared.sheet.Heading.{Heading}
 use Rattle.sheet_numbers.specs.declared.sheet.Sheet.{Sheet}
 use Rattle.sheet_numbers.specs.declared.sheet.Sheet.TheVariants.{Version1, Version2}
-use Rattle.day_sheet.specs.declared.reader.SheetRead.TheVariants.{Read, Refused}
 use Rattle.day_sheet.specs.Number.{in_base}
 use Rattle.day_sheet.specs.Version.{number_of, width_of}
 use Rattle.day_sheet.specs.Layout.{version1, version2, table_of, table_width, in_places, from_places, digits_right}
@@ -103,26 +103,26 @@ unfolding bytes_of
 written_digits s e = all_digits (table_of (version_of s)) (sheet_row s) (fits s e)
 
 -- "A day sheet that we write reads back as the same numbers"
-pub reads_back : (s : Sheet) → sheet_allowed s ≡ true → read_of (bytes_of s) ≡ Read s
+pub reads_back : (s : Sheet) → sheet_allowed s ≡ true → read_of (bytes_of s) ≡ Ok s
 unfolding read_of
 reads_back s e =
     let v = version_of s in
     let numbers = written_numbers_lem s e in
     let sheet : sheet_in v (bytes_of s) ≡ s = ap (sheet_of v) numbers ∙ row_sheet s in
     rw (marked s, bytes_length s, its_version s)
-    (allowed v (bytes_of s) (ap (λ (ns : List ℕ). get_or ns 0 0) numbers ∙ row_version s) (written_digits s e) (ap sheet_allowed sheet ∙ e) ∙ ap Read sheet)
+    (allowed v (bytes_of s) (ap (λ (ns : List ℕ). get_or ns 0 0) numbers ∙ row_version s) (written_digits s e) (ap sheet_allowed sheet ∙ e) ∙ ap Ok sheet)
 
 -- so two different allowed sheets have different bytes
 pub different : (s t : Sheet) → sheet_allowed s ≡ true → sheet_allowed t ≡ true → bytes_of s ≡ bytes_of t → s ≡ t
 different s t a b e =
-    let same : Read s ≡ Read t = sym (reads_back s a) ∙ ap read_of e ∙ reads_back t b in
+    let same : Ok s ≡ Ok t = sym (reads_back s a) ∙ ap read_of e ∙ reads_back t b in
     cc
 
 never : {A : Type 0} → ◌≡◌ {A = ℕ} 0 1 → A
 never e = absurd (omega arith)
 
 -- what reading a sheet says of the bytes
-was_read : (p q r : Bool) (x s : Sheet) (a b c : Refusal) → cond p (cond q (cond r (Read x) (Refused a)) (Refused b)) (Refused c) ≡ Read s →
+was_read : (p q r : Bool) (x s : Sheet) (a b c : Refusal) → cond p (cond q (cond r (Ok x) (Err a)) (Err b)) (Err c) ≡ Ok s →
     (p ≡ true) × (q ≡ true) × (r ≡ true) × (x ≡ s)
 was_read true true true x s a b c e = (refl, refl, refl, cc)
 was_read true true false x s a b c e = never (cc)
@@ -161,7 +161,7 @@ rewritten v l wide bytes mark number digits =
     let back = written_back (table_of v) (drop 3 l) (omega arith) (drop_bytes 3 l bytes) digits ∙ take_all (table_width (table_of v)) (drop 3 l) (omega arith) in
     its_bytes v l ∙ ap₂ ◌++◌ (sym mark) (same_numbers v l number ∙ back) ∙ take-append-drop 3 l
 
-module _ (l : List ℕ) (s : Sheet) (e : read_of l ≡ Read s) where
+module _ (l : List ℕ) (s : Sheet) (e : read_of l ≡ Ok s) where
   found :
       (is_marked l ≡ true) × (eqb (get_or (numbers_in (version_for (length l)) l) 0 0) (number_of (version_for (length l))) ≡ true) ×
       (numbers_right (version_for (length l)) l ≡ true) × (sheet_in (version_for (length l)) l ≡ s)

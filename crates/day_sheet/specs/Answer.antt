@@ -1,14 +1,12 @@
 -- The answers of reading, writing and converting a day sheet: the row that the papers give for each.
-use Rattle.std.specs.Prelude.{ℕ}
+use Rattle.std.specs.Prelude.{ℕ, Ok, Err}
 use Rattle.refusal.specs.Row.{RefusalRow, no_refusal, refusal_row}
 use Rattle.totals.specs.declared.amounts.Totals.{Totals}
 use Rattle.totals.specs.Amounts.{no_totals}
 use Rattle.sheet_numbers.specs.declared.sheet.Heading.{Heading}
 use Rattle.sheet_numbers.specs.declared.sheet.Sheet.TheVariants.{Version1, Version2}
-use Rattle.day_sheet.specs.declared.reader.SheetRead.{SheetRead}
-use Rattle.day_sheet.specs.declared.reader.SheetRead.TheVariants.{Read, Refused}
-use Rattle.day_sheet.specs.declared.writer.SheetWritten.{SheetWritten}
-use Rattle.day_sheet.specs.declared.writer.SheetWritten.TheVariants.{Written, Refused as not_written}
+use Rattle.day_sheet.specs.Reading.{SheetRead}
+use Rattle.day_sheet.specs.Writing.{SheetWritten}
 
 -- the refusal's number, record and column, and the sheet's numbers; version 1 tells no split and no forecast
 pub record SheetRow : Type 0 where
@@ -33,12 +31,12 @@ no_sheet refusal =
     }
 
 unfoldable pub read_row : SheetRead → SheetRow
-read_row (Read (Version1 h t)) = record { refusal = no_refusal; version = 1; heading = h; totals = t; split = 0; forecast = no_totals }
-read_row (Read (Version2 h split sets)) =
+read_row (Ok (Version1 h t)) = record { refusal = no_refusal; version = 1; heading = h; totals = t; split = 0; forecast = no_totals }
+read_row (Ok (Version2 h split sets)) =
     record { refusal = no_refusal; version = 2; heading = h; totals = sets.settled; split = split; forecast = sets.forecast }
-read_row (Refused r) = no_sheet (refusal_row r)
+read_row (Err r) = no_sheet (refusal_row r)
 
 -- writing answers no numbers
 unfoldable pub written_row : SheetWritten → SheetRow
-written_row Written = no_sheet no_refusal
-written_row (not_written r) = no_sheet (refusal_row r)
+written_row (Ok none) = no_sheet no_refusal
+written_row (Err r) = no_sheet (refusal_row r)

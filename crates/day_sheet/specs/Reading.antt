@@ -1,17 +1,20 @@
 -- Reading a day sheet: "15 for a length other than 52 and 81 or a wrong mark, then 16 for a version that doesn't go with the length, then 17".
-use Rattle.std.specs.Prelude.{ℕ, List, Bool, cond, ◌&&◌, ◌||◌, length, take, drop, get_or, eqb}
+use Rattle.std.specs.Prelude.{ℕ, List, Bool, cond, ◌&&◌, ◌||◌, length, take, drop, get_or, eqb, Result, Ok, Err}
 use Rattle.refusal.specs.declared.Cause.TheVariants.{NotADaySheet, SheetVersionUnknown, SheetNumbersNotAllowed}
+use Rattle.refusal.specs.declared.Refusal.{Refusal}
 use Rattle.refusal.specs.Nowhere.{nowhere}
 use Rattle.text.specs.Literal.{ascii, same_bytes}
 use Rattle.day_sheet.specs.declared.layout.Version.{Version}
 use Rattle.day_sheet.specs.declared.layout.Version.TheVariants.{One, Two}
 use Rattle.sheet_numbers.specs.declared.sheet.Sheet.{Sheet}
-use Rattle.day_sheet.specs.declared.reader.SheetRead.{SheetRead}
-use Rattle.day_sheet.specs.declared.reader.SheetRead.TheVariants.{Read, Refused}
 use Rattle.day_sheet.specs.Version.{number_of, width_of}
 use Rattle.day_sheet.specs.Layout.{table_of, from_places, digits_right}
 use Rattle.day_sheet.specs.Sheet.{sheet_of}
 use Rattle.sheet_numbers.specs.Allowed.{sheet_allowed}
+
+-- the answer of reading: the sheet, or why it is refused
+abbrev pub SheetRead : Type 0
+SheetRead = Result Sheet Refusal
 
 -- as many bytes as a version has, with the mark
 abbrev pub is_marked : List ℕ → Bool
@@ -36,9 +39,9 @@ numbers_right v s = digits_right (table_of v) (drop 3 s) && sheet_allowed (sheet
 unfoldable pub read_as : Version → List ℕ → SheetRead
 read_as v s =
     cond (eqb (get_or (numbers_in v s) 0 0) (number_of v))
-    (cond (numbers_right v s) (Read (sheet_in v s)) (Refused (nowhere SheetNumbersNotAllowed)))
-    (Refused (nowhere SheetVersionUnknown))
+    (cond (numbers_right v s) (Ok (sheet_in v s)) (Err (nowhere SheetNumbersNotAllowed)))
+    (Err (nowhere SheetVersionUnknown))
 
 -- what reading answers
 unfoldable pub read_of : List ℕ → SheetRead
-read_of s = cond (is_marked s) (read_as (version_for (length s)) s) (Refused (nowhere NotADaySheet))
+read_of s = cond (is_marked s) (read_as (version_for (length s)) s) (Err (nowhere NotADaySheet))

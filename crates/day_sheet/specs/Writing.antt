@@ -1,15 +1,18 @@
 -- Writing a day sheet: "writing a new sheet with edition 1 gives 22 before 17"; "writing refuses 17, then 2"; it "fills exactly 52 bytes", of version 2 exactly 81.
-use Rattle.std.specs.Prelude.{ℕ, ◌≡◌, List, ◌++◌, cond, length, drop, leb}
+use Rattle.std.specs.Prelude.{ℕ, ◌≡◌, List, ◌++◌, cond, length, drop, leb, Result, Ok, Err}
 use Rattle.refusal.specs.declared.Cause.TheVariants.{OutputTooShort, SheetNumbersNotAllowed, EditionRetired}
+use Rattle.refusal.specs.declared.Refusal.{Refusal}
 use Rattle.refusal.specs.Nowhere.{nowhere}
 use Rattle.edition.specs.Known.{retired}
 use Rattle.sheet_numbers.specs.declared.sheet.Sheet.{Sheet}
 use Rattle.sheet_numbers.specs.Edition.{sheet_edition}
-use Rattle.day_sheet.specs.declared.writer.SheetWritten.{SheetWritten}
-use Rattle.day_sheet.specs.declared.writer.SheetWritten.TheVariants.{Written, Refused}
 use Rattle.day_sheet.specs.Version.{width_of}
 use Rattle.day_sheet.specs.Sheet.{version_of, bytes_of}
 use Rattle.sheet_numbers.specs.Allowed.{sheet_allowed}
+
+-- the answer of writing: done, or why it is refused
+abbrev pub SheetWritten : Type 0
+SheetWritten = Result (Unit {0}) Refusal
 
 -- how many bytes a sheet has
 abbrev pub sheet_width : Sheet → ℕ
@@ -17,7 +20,7 @@ sheet_width s = width_of (version_of s)
 
 -- a sheet that is put into an output as it is: 2, or done
 unfoldable pub put_answer : Sheet → ℕ → SheetWritten
-put_answer sheet room = cond (leb (sheet_width sheet) room) Written (Refused (nowhere OutputTooShort))
+put_answer sheet room = cond (leb (sheet_width sheet) room) (Ok tt) (Err (nowhere OutputTooShort))
 
 -- and what the output then holds
 unfoldable pub put_result : Sheet → List ℕ → List ℕ
@@ -31,8 +34,8 @@ pub record PutInto (sheet : Sheet) (out : List ℕ) (answer : SheetWritten) (aft
 unfoldable pub write_answer : Sheet → ℕ → SheetWritten
 write_answer sheet room =
     cond (retired (sheet_edition sheet))
-    (Refused (nowhere EditionRetired))
-    (cond (sheet_allowed sheet) (put_answer sheet room) (Refused (nowhere SheetNumbersNotAllowed)))
+    (Err (nowhere EditionRetired))
+    (cond (sheet_allowed sheet) (put_answer sheet room) (Err (nowhere SheetNumbersNotAllowed)))
 
 -- and what the output then holds
 unfoldable pub write_result : Sheet → List ℕ → List ℕ

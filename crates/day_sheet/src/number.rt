@@ -37,9 +37,7 @@ impl Form {
         ensures { part.new ≡ in_base (base self) (zero_byte self) (length part.old) number }
     {
         let mut left = number;
-        let mut i = part.len();
-        while 0 < i {
-            i -= 1;
+        for i in (0..part.len()).rev() {
             part[i] = self.last_digit(left);
             left = self.other_digits(left);
         }
@@ -60,25 +58,19 @@ impl Form {
     {
         match self {
             Form::Bytes => number * 256 + byte as u64,
-            Form::Digits => {
-                if byte < b'0' {
-                    return number * 10;
-                }
-                number * 10 + (byte - b'0') as u64
-            }
+            Form::Digits => number * 10 + byte.saturating_sub(b'0') as u64,
         }
     }
 
     // The number that at most eight bytes hold.
+    #[tactic(auto, using(crate::proofs::Digits::room, crate::proofs::Digits::byte_more, crate::proofs::Digits::digit_more, crate::proofs::Digits::digits_end))]
     pub(crate) fn value(self, part: &[u8]) -> u64
         requires { length part.now ≤ 8 }
         ensures { result ≡ value_in (base self) (zero_byte self) 0 part.now }
     {
         let mut value: u64 = 0;
-        let mut i = 0;
-        while i < part.len() {
-            value = self.with_digit(value, part[i]);
-            i += 1;
+        for &byte in part {
+            value = self.with_digit(value, byte);
         }
         value
     }

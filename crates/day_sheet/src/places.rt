@@ -13,14 +13,11 @@ pub(crate) fn fill(numbers: &[u64], out: &mut [u8])
 {
     Form::Bytes.put_at(layout::MARK, 0, layout::MARK_WIDTH, out);
     let mut at = layout::MARK_WIDTH;
-    let mut number = 0;
-    while number < numbers.len() {
+    for (number, value) in numbers.iter().enumerate() {
         let place = layout::place_of(number);
-        let form = place.form;
         let end = at + place.width;
-        form.put_at(numbers[number], at, end, out);
+        place.form.put_at(*value, at, end, out);
         at = end;
-        number += 1;
     }
 }
 
@@ -30,16 +27,13 @@ pub(crate) fn holds_digits(bytes: &[u8], places: usize) -> bool
     ensures { result ≡ digits_right (first_places places) (drop 3 bytes.now) }
 {
     let mut at = layout::MARK_WIDTH;
-    let mut number = 0;
-    while number < places {
+    for number in 0..places {
         let place = layout::place_of(number);
-        let form = place.form;
         let end = at + place.width;
-        if !form.holds(&bytes[at..end]) {
+        if !place.form.holds(&bytes[at..end]) {
             return false;
         }
         at = end;
-        number += 1;
     }
     true
 }
@@ -50,13 +44,10 @@ pub(crate) fn read_numbers(bytes: &[u8], numbers: &mut [u64])
     ensures { numbers.new ≡ from_places (first_places (length numbers.old)) (drop 3 bytes.now) }
 {
     let mut at = layout::MARK_WIDTH;
-    let mut number = 0;
-    while number < numbers.len() {
+    for (number, value) in numbers.iter_mut().enumerate() {
         let place = layout::place_of(number);
-        let form = place.form;
         let end = at + place.width;
-        numbers[number] = form.value(&bytes[at..end]);
+        *value = place.form.value(&bytes[at..end]);
         at = end;
-        number += 1;
     }
 }

@@ -1,5 +1,5 @@
 // A sheet's numbers in the order of the layout, there and back.
-ghost use Rattle.std.specs.Prelude.{◌≡◌, ◌≤◌};
+ghost use Rattle.std.specs.Prelude.{◌≡◌, get_or};
 ghost use Rattle.day_sheet.specs.Sheet.{row_of, sheet_row, totals_from, sheet_of};
 
 use crate::layout;
@@ -18,8 +18,6 @@ fn row_of(
 ) -> [u64; PLACES]
     ensures { result ≡ row_of version heading first split second }
 {
-    let amounts = first.amounts;
-    let others = second.amounts;
     [
         version,
         heading.edition,
@@ -27,18 +25,19 @@ fn row_of(
         heading.movement,
         heading.batches,
         first.sales,
-        amounts.gross,
-        amounts.discount,
-        amounts.net,
+        first.amounts.gross,
+        first.amounts.discount,
+        first.amounts.net,
         split,
         second.sales,
-        others.gross,
-        others.discount,
-        others.net,
+        second.amounts.gross,
+        second.amounts.discount,
+        second.amounts.net,
     ]
 }
 
 // A sheet's row: its numbers in the order of the layout, with zeros where version 1 has none.
+#[tactic(auto, unfolding(crate::specs::Sheet::sheet_row))]
 pub fn row(sheet: Sheet) -> [u64; PLACES]
     ensures { result ≡ sheet_row sheet }
 {
@@ -48,25 +47,27 @@ pub fn row(sheet: Sheet) -> [u64; PLACES]
             heading,
             split,
             sets,
-        } => {
-            let settled = sets.settled;
-            let forecast = sets.forecast;
-            row_of(2, heading, settled, split, forecast)
-        }
+        } => row_of(2, heading, sets.settled, split, sets.forecast),
     }
 }
 
-// The totals whose four numbers begin with this one.
-fn totals_from(first: usize, numbers: [u64; PLACES]) -> Totals
-    requires { first ≤ 10 }
-    ensures { result ≡ totals_from first numbers }
+// The number at a place of a row; 0 where it ends before.
+fn number_at(numbers: &[u64], place: usize) -> u64
+    ensures { result ≡ get_or numbers.now place 0 }
+{
+    numbers.get(place).copied().unwrap_or(0)
+}
+
+// The totals whose four numbers begin with this one of a row.
+pub fn totals_from(first: usize, numbers: &[u64]) -> Totals
+    ensures { result ≡ totals_from first numbers.now }
 {
     Totals {
-        sales: numbers[first],
+        sales: number_at(numbers, first),
         amounts: Amounts {
-            gross: numbers[first + 1],
-            discount: numbers[first + 2],
-            net: numbers[first + 3],
+            gross: number_at(numbers, first.saturating_add(1)),
+            discount: number_at(numbers, first.saturating_add(2)),
+            net: number_at(numbers, first.saturating_add(3)),
         },
     }
 }
@@ -84,14 +85,14 @@ pub fn sheet_of(version: Version, numbers: [u64; PLACES]) -> Sheet
     match version {
         Version::One => Sheet::Version1 {
             heading,
-            totals: totals_from(layout::SETTLED, numbers),
+            totals: totals_from(layout::SETTLED, &numbers),
         },
         Version::Two => Sheet::Version2 {
             heading,
             split: numbers[layout::SPLIT],
             sets: TwoSets {
-                forecast: totals_from(layout::FORECAST, numbers),
-                settled: totals_from(layout::SETTLED, numbers),
+                forecast: totals_from(layout::FORECAST, &numbers),
+                settled: totals_from(layout::SETTLED, &numbers),
             },
         },
     }

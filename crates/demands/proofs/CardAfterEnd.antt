@@ -18,12 +18,11 @@ use Rattle.card_run.specs.declared.stage.Stage.{Stage}
 use Rattle.card_run.specs.declared.stage.Stage.TheVariants.{Start, BetweenBatches, InBatch, Ended, Closed, Refused}
 use Rattle.card_run.specs.declared.running.Running.{Running}
 use Rattle.card_run.specs.declared.answer.Accepted.{Accepted as CardNumbers}
-use Rattle.card_run.specs.declared.answer.CardAnswer.TheVariants.{GoingOn, Accepted, Refused as refused}
 use Rattle.card_record.specs.Reading.{reading_of}
 use Rattle.card_run.specs.Running.{closed_at, closed_of, refused_at, late_at}
 use Rattle.card_step.specs.Step.{took_at}
 use Rattle.card_file.specs.Feeding.{fed_of}
-use Rattle.card_run.specs.Answer.{answer_at, answer_of}
+use Rattle.card_run.specs.Answer.{answer_at, answer_of, CardAnswer}
 use Rattle.card_file.specs.CardFile.{unended_at, unended_of, line_of, end_of}
 use Rattle.card_stream.specs.declared.Stream.{Stream}
 use Rattle.card_stream.specs.Stream as card
@@ -31,6 +30,7 @@ use Rattle.card_stream.proofs.InChunks as CardStream
 use Rattle.card_kept.proofs.Stays as stays
 use Rattle.demands.specs.Feeding.{after_the_end}
 use Rattle.demands.proofs.Feeding.{closed_stage}
+use Rattle.std.specs.Prelude.{Err, None, Ok, Some}
 
 -- an ended file is closed or refused, and closing it once more changes nothing
 closed_again : (st : Running) (stage : Stage) → st.stage ≡ stage → closed_of (closed_at stage st) ≡ closed_at stage st
@@ -61,30 +61,30 @@ unfolding card.with_held end_of
 card_ended_again s = ap answer_of (ended_again s.state (held_by s.held))
 
 -- the end decides: it leaves a file closed or refused
-closed_decides : (st : Running) (stage : Stage) → st.stage ≡ stage → answer_of (closed_at stage st) ≡ GoingOn → ◌≡◌ {A = ℕ} 0 1
+closed_decides : (st : Running) (stage : Stage) → st.stage ≡ stage → answer_of (closed_at stage st) ≡ None → ◌≡◌ {A = ℕ} 0 1
 unfolding closed_at answer_at
 closed_decides st Start k e = cc
 closed_decides st BetweenBatches k e = cc
 closed_decides st InBatch k e = cc
 closed_decides st Ended k e = cc
-closed_decides st Closed k e = let f : answer_at Closed st ≡ GoingOn = ap (λ s. answer_at s st) (sym k) ∙ e in cc
-closed_decides st (Refused r) k e = let f : answer_at (Refused r) st ≡ GoingOn = ap (λ s. answer_at s st) (sym k) ∙ e in cc
+closed_decides st Closed k e = let f : answer_at Closed st ≡ None = ap (λ s. answer_at s st) (sym k) ∙ e in cc
+closed_decides st (Refused r) k e = let f : answer_at (Refused r) st ≡ None = ap (λ s. answer_at s st) (sym k) ∙ e in cc
 
-unended_decides : (st : Running) (stage : Stage) → st.stage ≡ stage → answer_of (unended_at stage st) ≡ GoingOn → ◌≡◌ {A = ℕ} 0 1
+unended_decides : (st : Running) (stage : Stage) → st.stage ≡ stage → answer_of (unended_at stage st) ≡ None → ◌≡◌ {A = ℕ} 0 1
 unfolding unended_at answer_at late_at
 unended_decides st Start k e = cc
 unended_decides st BetweenBatches k e = cc
 unended_decides st InBatch k e = cc
 unended_decides st Ended k e = cc
 unended_decides st Closed k e = cc
-unended_decides st (Refused r) k e = let f : answer_at (Refused r) st ≡ GoingOn = ap (λ s. answer_at s st) (sym k) ∙ e in cc
+unended_decides st (Refused r) k e = let f : answer_at (Refused r) st ≡ None = ap (λ s. answer_at s st) (sym k) ∙ e in cc
 
-end_decides : (st : Running) (held : List ℕ) → answer_of (end_of st held) ≡ GoingOn → ⊥
+end_decides : (st : Running) (held : List ℕ) → answer_of (end_of st held) ≡ None → ⊥
 unfolding end_of
 end_decides st [] e = absurd (let z = closed_decides st st.stage refl e in omega arith)
 end_decides st (b ∷ s) e = absurd (let z = unended_decides st st.stage refl e in omega arith)
 
-pub card_decided : (s : Stream) → card.answer_of (card.ended_of s) ≡ GoingOn → ⊥
+pub card_decided : (s : Stream) → card.answer_of (card.ended_of s) ≡ None → ⊥
 unfolding card.with_held
 card_decided s e = end_decides s.state (held_by s.held) e
 
@@ -95,7 +95,7 @@ with_bytes [] st h = absurd (omega arith)
 with_bytes (b ∷ s) st h = refl
 
 -- a refused state answers its refusal, whatever waits
-pub refused_answers : (x : Refusal) (st : Running) (held : List ℕ) → st.stage ≡ Refused x → answer_of (card.with_held held st) ≡ refused x
+pub refused_answers : (x : Refusal) (st : Running) (held : List ℕ) → st.stage ≡ Refused x → answer_of (card.with_held held st) ≡ Some (Err x)
 unfolding card.with_held card.behind_end
 refused_answers x st [] e = stays.answer_of_lem st x e
 refused_answers x st (b ∷ s) e = ap (λ stage. answer_of (card.behind_end stage st)) e ∙ stays.answer_of_lem st x e
@@ -120,7 +120,7 @@ some_clipped [] h = h
 some_clipped (b ∷ s) h = clipped_some b [] s
 
 behind_closed : (st : Running) (ps : List (List ℕ)) (rest : List ℕ) → st.stage ≡ Closed → (ps ≡ [] → 0 < length rest) →
-    answer_of (card.with_held (held_by (holding (clipped rest))) (foldl line_of st ps)) ≡ refused (after_the_end st)
+    answer_of (card.with_held (held_by (holding (clipped rest))) (foldl line_of st ps)) ≡ Some (Err (after_the_end st))
 unfolding card.behind_end answer_at
 behind_closed st [] rest e h =
     ap (λ held. answer_of (card.with_held held st)) (held_back (clipped rest)) ∙
@@ -149,14 +149,14 @@ bytes_come b chunk ls w = by ls.pieces ls.rest w.whole
     by (p ∷ ps) rest whole e = absurd (nil≢cons (sym e))
 
 -- what a refused answer says of a stream: the state is refused, or bytes wait behind an accepted end
-refused_how : (held : List ℕ) (st : Running) (x : Refusal) → answer_of (card.with_held held st) ≡ refused x →
-    (st.stage ≡ Refused x) ⊎ ((st.stage ≡ Closed) × (refused (after_the_end st) ≡ refused x) × (0 < length held))
+refused_how : (held : List ℕ) (st : Running) (x : Refusal) → answer_of (card.with_held held st) ≡ Some (Err x) →
+    (st.stage ≡ Refused x) ⊎ ((st.stage ≡ Closed) × (◌≡◌ {A = CardAnswer} (Some (Err (after_the_end st))) (Some (Err x))) × (0 < length held))
 unfolding card.with_held card.behind_end answer_at
 refused_how [] st x e = inl (stays.stage_of_lem st x e)
 refused_how (b ∷ s) st x e = by st.stage refl e
   where
-    by : (stage : Stage) → st.stage ≡ stage → answer_of (card.behind_end stage st) ≡ refused x →
-        (st.stage ≡ Refused x) ⊎ ((st.stage ≡ Closed) × (refused (after_the_end st) ≡ refused x) × (0 < length (b ∷ s)))
+    by : (stage : Stage) → st.stage ≡ stage → answer_of (card.behind_end stage st) ≡ Some (Err x) →
+        (st.stage ≡ Refused x) ⊎ ((st.stage ≡ Closed) × (◌≡◌ {A = CardAnswer} (Some (Err (after_the_end st))) (Some (Err x))) × (0 < length (b ∷ s)))
     by Start k e = inl (stays.stage_of_lem st x e)
     by BetweenBatches k e = inl (stays.stage_of_lem st x e)
     by InBatch k e = inl (stays.stage_of_lem st x e)
@@ -165,22 +165,22 @@ refused_how (b ∷ s) st x e = by st.stage refl e
     by (Refused r) k e = inl (stays.stage_of_lem st x e)
 
 -- and an accepted one: it is closed, and no byte waits
-accepted_how : (held : List ℕ) (st : Running) (a : CardNumbers) → answer_of (card.with_held held st) ≡ Accepted a → (held ≡ []) × (st.stage ≡ Closed)
+accepted_how : (held : List ℕ) (st : Running) (a : CardNumbers) → answer_of (card.with_held held st) ≡ Some (Ok a) → (held ≡ []) × (st.stage ≡ Closed)
 unfolding card.with_held card.behind_end answer_at
 accepted_how [] st a e = (refl, closed_stage st a e)
 accepted_how (b ∷ s) st a e = absurd (let z : ◌≡◌ {A = ℕ} 0 1 = by st.stage refl e in omega arith)
   where
-    by : (stage : Stage) → st.stage ≡ stage → answer_of (card.behind_end stage st) ≡ Accepted a → ◌≡◌ {A = ℕ} 0 1
-    by Start k e = let f : answer_at Start st ≡ Accepted a = ap (λ s. answer_at s st) (sym k) ∙ e in cc
-    by BetweenBatches k e = let f : answer_at BetweenBatches st ≡ Accepted a = ap (λ s. answer_at s st) (sym k) ∙ e in cc
-    by InBatch k e = let f : answer_at InBatch st ≡ Accepted a = ap (λ s. answer_at s st) (sym k) ∙ e in cc
-    by Ended k e = let f : answer_at Ended st ≡ Accepted a = ap (λ s. answer_at s st) (sym k) ∙ e in cc
+    by : (stage : Stage) → st.stage ≡ stage → answer_of (card.behind_end stage st) ≡ Some (Ok a) → ◌≡◌ {A = ℕ} 0 1
+    by Start k e = let f : answer_at Start st ≡ Some (Ok a) = ap (λ s. answer_at s st) (sym k) ∙ e in cc
+    by BetweenBatches k e = let f : answer_at BetweenBatches st ≡ Some (Ok a) = ap (λ s. answer_at s st) (sym k) ∙ e in cc
+    by InBatch k e = let f : answer_at InBatch st ≡ Some (Ok a) = ap (λ s. answer_at s st) (sym k) ∙ e in cc
+    by Ended k e = let f : answer_at Ended st ≡ Some (Ok a) = ap (λ s. answer_at s st) (sym k) ∙ e in cc
     by Closed k e = cc
-    by (Refused r) k e = let f : answer_at (Refused r) st ≡ Accepted a = ap (λ s. answer_at s st) (sym k) ∙ e in cc
+    by (Refused r) k e = let f : answer_at (Refused r) st ≡ Some (Ok a) = ap (λ s. answer_at s st) (sym k) ∙ e in cc
 
 -- the next chunk, and the end, of a stream whose state is refused
 abbrev StaysRefused : Stream → Refusal → Type 0
-StaysRefused s x = ((chunk : List ℕ) → card.answer_of (card.taken_of s chunk) ≡ refused x) × (card.answer_of (card.ended_of s) ≡ refused x)
+StaysRefused s x = ((chunk : List ℕ) → card.answer_of (card.taken_of s chunk) ≡ Some (Err x)) × (card.answer_of (card.ended_of s) ≡ Some (Err x))
 
 stage_refused : (s : Stream) (x : Refusal) → s.state.stage ≡ Refused x → StaysRefused s x
 unfolding card.with_held
@@ -203,25 +203,25 @@ bytes_wait s c h = (
   ap answer_of (CardStream.some_left s.state (held_by s.held) h ∙ ap (λ stage. unended_at stage s.state) c),
 )
 
-pub card_refused_lem : (s : Stream) (x : Refusal) → card.answer_of s ≡ refused x → StaysRefused s x
+pub card_refused_lem : (s : Stream) (x : Refusal) → card.answer_of s ≡ Some (Err x) → StaysRefused s x
 card_refused_lem s x e =
     ⊎_elim
     (stage_refused s x)
-    (λ (w : (s.state.stage ≡ Closed) × (refused (after_the_end s.state) ≡ refused x) × (0 < length (held_by s.held))).
+    (λ (w : (s.state.stage ≡ Closed) × (◌≡◌ {A = CardAnswer} (Some (Err (after_the_end s.state))) (Some (Err x))) × (0 < length (held_by s.held))).
     let stay = bytes_wait s w.0 w.2 in
     (λ chunk. stay.0 chunk ∙ w.1, stay.1 ∙ w.1))
     (refused_how (held_by s.held) s.state x e)
 
 -- after an accepted end
-nothing_more : (s : Stream) (a : CardNumbers) → held_by s.held ≡ [] → card.answer_of s ≡ Accepted a → card.answer_of (card.taken_of s []) ≡ Accepted a
+nothing_more : (s : Stream) (a : CardNumbers) → held_by s.held ≡ [] → card.answer_of s ≡ Some (Ok a) → card.answer_of (card.taken_of s []) ≡ Some (Ok a)
 unfolding card.with_held cut held_before clipped_with
 nothing_more s a none e =
     ap (λ held. card.answer_of (card.stream_of (ran_over line_of (record { state = s.state; held = held }) []))) none ∙
     sym (ap (λ held. answer_of (card.with_held held s.state)) none) ∙ e
 
-pub card_accepted : (s : Stream) (a : CardNumbers) → card.answer_of s ≡ Accepted a →
-    (card.answer_of (card.taken_of s []) ≡ Accepted a) ×
-    ((b : ℕ) (chunk : List ℕ) → card.answer_of (card.taken_of s (b ∷ chunk)) ≡ refused (after_the_end s.state))
+pub card_accepted : (s : Stream) (a : CardNumbers) → card.answer_of s ≡ Some (Ok a) →
+    (card.answer_of (card.taken_of s []) ≡ Some (Ok a)) ×
+    ((b : ℕ) (chunk : List ℕ) → card.answer_of (card.taken_of s (b ∷ chunk)) ≡ Some (Err (after_the_end s.state)))
 card_accepted s a e =
     let how = accepted_how (held_by s.held) s.state a e in (
       nothing_more s a how.0 e,

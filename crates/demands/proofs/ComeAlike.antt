@@ -16,8 +16,7 @@ use Rattle.chunks.specs.Chunks.{start_of, joined_chunks}
 use Rattle.chunks.proofs.Clipped.{clipped_exactly}
 use Rattle.chunks.proofs.Held.{held_back}
 use Rattle.chunks.proofs.Streams.{cut_on}
-use Rattle.files.specs.declared.reading.Got.{Got}
-use Rattle.files.specs.declared.reading.Got.TheVariants.{Bytes, End, Failed}
+use Rattle.files.specs.Loaded.{Got}
 use Rattle.card_run.specs.Running.{open_of}
 use Rattle.card_run.specs.Answer.{answer_of as answered}
 use Rattle.card_file.specs.CardFile.{lines_of, end_of, check_of}
@@ -34,7 +33,6 @@ use Rattle.adjustment_rows.specs.Rows.{rows_of}
 use Rattle.adjustment_rows.proofs.InChunks.{tabled_as_whole}
 use Rattle.program.specs.declared.mistake.Mistake.TheVariants.{System}
 use Rattle.program.specs.declared.mistake.Failed.TheVariants.{Read}
-use Rattle.card_program.specs.declared.outcome.Outcome.TheVariants.{Answer, Mistake}
 use Rattle.card_program.specs.Outcome.{is_decided, outcome_at}
 use Rattle.demands.specs.HiddenDigits.{hidden_in_pieces, hidden_in}
 use Rattle.demands.specs.InChunks.{card_taken, copied_in_chunks, tabled_in_chunks}
@@ -42,6 +40,7 @@ use Rattle.demands.specs.ToldAlike.{ComeAlike}
 use Rattle.demands.proofs.MaskedFiles.{same_lines}
 use Rattle.demands.proofs.MaskedPlaces.{of_pieces, stars_where_hidden}
 use Rattle.demands.proofs.MaskedRows.{same_rows}
+use Rattle.std.specs.Prelude.{Err, Ok, Some, None}
 
 -- the lines of a, masked, and behind them what has come of the piece that has not ended, with the stars that it has in a ++ b: it may end within a card
 abbrev starred : List ℕ → List ℕ → Lines
@@ -93,9 +92,9 @@ module _ (s t : Stream) (state : s.state ≡ t.state) (held : length (held_by s.
 
   outcome_alike : (got : Got) → outcome_at got s ≡ outcome_at got t
   unfolding outcome_at
-  outcome_alike End = ap (λ u. Answer (answer_of u)) ended_alike
-  outcome_alike (Failed error) = refl
-  outcome_alike (Bytes n) = ap₂ (λ a u. cond (is_decided a) (Answer (answer_of u)) (Mistake (System Read 0))) answer_alike ended_alike
+  outcome_alike (Ok None) = ap (λ u. Ok (answer_of u)) ended_alike
+  outcome_alike (Err error) = refl
+  outcome_alike (Ok (Some n)) = ap₂ (λ a u. cond (is_decided a) (Ok (answer_of u)) (Err (System Read 0))) answer_alike ended_alike
 
 -- two files with one masked form, of which equally much has come
 module _ (cs ds : List (List ℕ)) (w : ComeAlike (λ s t. masked_file s ≡ masked_file t) cs ds) where

@@ -4,10 +4,8 @@ use Prim.Native.Nat.{ℕ}
 use mathlib.Core.Path.{◌≡◌, ◌∙◌, ap}
 use lib.ListN.{length}
 use Rattle.refusal.specs.declared.Cause.{Cause}
-use Rattle.refusal.specs.declared.Fault.TheVariants.{At}
 use Rattle.refusal.specs.Nowhere.{nowhere}
 use Rattle.edition.specs.Known.{edition_fault}
-use Rattle.card_run.specs.declared.answer.CardAnswer.TheVariants.{Refused}
 use Rattle.card_run.specs.Running.{open_of}
 use Rattle.card_run.specs.Answer.{card_file_row}
 use Rattle.card_file.proofs.Rooms as rooms
@@ -21,8 +19,10 @@ use Rattle.demands.specs.Editions.{RefusedOutright}
 use Rattle.demands.proofs.Feeding.{refused_for_good}
 use Rattle.demands.proofs.CardAfterEnd.{refused_answers, card_refused_lem}
 use Rattle.demands.proofs.InChunks.{after_all}
+use Rattle.refusal.specs.Fault.{at}
+use Rattle.std.specs.Prelude.{Err, Some}
 
-pub refused_outright : (edition : ℕ) {cause : Cause} {column : ℕ} → edition_fault edition ≡ At cause column → RefusedOutright edition cause
+pub refused_outright : (edition : ℕ) {cause : Cause} {column : ℕ} → edition_fault edition ≡ at cause column → RefusedOutright edition cause
 unfolding card_file_row masked_into sheet_into
 refused_outright edition {cause = cause} bad =
     let x = nowhere cause in
@@ -32,7 +32,7 @@ refused_outright edition {cause = cause} bad =
       fed = refused_for_good (open_of edition) x (stays.answer_of_lem (open_of edition) x opens);
       in_chunks = λ chunks.
           ap card_file_row
-          (after_all card.taken_of card.answer_of (Refused x) (λ s e. (card_refused_lem s x e).0) (card.open_of edition) chunks (refused_answers x (open_of edition) _ opens));
+          (after_all card.taken_of card.answer_of (Some (Err x)) (λ s e. (card_refused_lem s x e).0) (card.open_of edition) chunks (refused_answers x (open_of edition) _ opens));
       ended = λ chunks. ap card_file_row (chunks_as_whole edition chunks ∙ edition_first edition bad _);
       masked = λ file out answer after m.
           let refused = rooms.edition_refused edition file (length file) (length out) bad in

@@ -18,17 +18,16 @@ use Rattle.card_run.specs.declared.stage.Stage.{Stage}
 use Rattle.card_run.specs.declared.stage.Stage.TheVariants.{Start, BetweenBatches, InBatch, Ended, Closed, Refused}
 use Rattle.card_run.specs.declared.running.Running.{Running}
 use Rattle.card_run.specs.declared.answer.Accepted.{Accepted as AcceptedFile}
-use Rattle.card_run.specs.declared.answer.CardAnswer.{CardAnswer}
-use Rattle.card_run.specs.declared.answer.CardAnswer.TheVariants.{GoingOn, Accepted as accepted, Refused as refused}
 use Rattle.card_run.specs.Running.{open_of, next_number, closed_at, closed_of, late_at}
 use Rattle.card_step.specs.Step.{took_at}
 use Rattle.card_file.specs.Feeding.{fed_of, fed_all}
-use Rattle.card_run.specs.Answer.{answer_at, answer_of, going_on_row, refused_row, card_file_row}
+use Rattle.card_run.specs.Answer.{answer_at, answer_of, going_on_row, refused_row, card_file_row, CardAnswer}
 use Rattle.card_file.specs.CardFile.{end_of, ran_of, check_of}
 use Rattle.demands.specs.Feeding.{up_to, FedAsWhole, RefusedForGood, Call, feed, close, called, after_the_end, AfterAcceptedClose, OnePastTheLast}
 use Rattle.card_kept.proofs.Stays as stays
 use Rattle.card_kept.proofs.Batches.{fed_row, lines_are}
 use Rattle.card_kept.proofs.Standing.{StandsAt, Stands, next_number_lem, fed_all_lem, fed_open}
+use Rattle.std.specs.Prelude.{Err, None, Ok, Some}
 
 -- closing gives the file's answer
 whole : (edition : ℕ) (rs : List (List ℕ)) → all_no_lf rs ≡ true → answer_of (closed_of (fed_all (open_of edition) rs)) ≡ check_of edition (joined rs)
@@ -38,36 +37,36 @@ whole edition rs e =
 
 -- the refusal up to the k-th record, of an answer
 abbrev so_far : ℕ → CardAnswer → CardAnswer
-so_far k GoingOn = GoingOn
-so_far k (accepted a) = GoingOn
-so_far k (refused x) = cond (leb x.«record» k) (refused x) GoingOn
+so_far k None = None
+so_far k (Some (Ok a)) = None
+so_far k (Some (Err x)) = cond (leb x.«record» k) (Some (Err x)) None
 
 -- as the row tells
 row_so_far : (k : ℕ) (answer : CardAnswer) → card_file_row (so_far k answer) ≡ up_to k (card_file_row answer)
 unfolding card_file_row
-row_so_far k GoingOn = refl
-row_so_far k (accepted a) = refl
-row_so_far k (refused x) =
+row_so_far k None = refl
+row_so_far k (Some (Ok a)) = refl
+row_so_far k (Some (Err x)) =
     let some : number_of x.cause ≡ 0 → ⊥ = λ e. omega (arith, from_one x.cause) in
     by (leb x.«record» k) ∙ sym (rw (ne_eqb (number_of x.cause) 0 some))
   where
-    by : (t : Bool) → card_file_row (cond t (refused x) GoingOn) ≡ cond t (refused_row x) going_on_row
+    by : (t : Bool) → card_file_row (cond t (Some (Err x)) None) ≡ cond t (refused_row x) going_on_row
     by true = refl
     by false = refl
 
 -- a refusal is given from its record on, and not before
-given : (k : ℕ) (x : Refusal) → x.«record» ≤ k → refused x ≡ so_far k (refused x)
+given : (k : ℕ) (x : Refusal) → x.«record» ≤ k → Some (Err x) ≡ so_far k (Some (Err x))
 given k x h = rw (le-leb x.«record» k h)
 
-not_yet : (k : ℕ) (x : Refusal) → k < x.«record» → GoingOn ≡ so_far k (refused x)
+not_yet : (k : ℕ) (x : Refusal) → k < x.«record» → None ≡ so_far k (Some (Err x))
 not_yet k x h = rw (lt-leb x.«record» k h)
 
 -- a run refused from the record behind the k-th on, or not at all, has no refusal up to the k-th when it is closed
-closed_later : (k n : ℕ) (st : Running) → k ≤ n → Stands (suc k) n st → GoingOn ≡ so_far k (answer_of (closed_of st))
+closed_later : (k n : ℕ) (st : Running) → k ≤ n → Stands (suc k) n st → None ≡ so_far k (answer_of (closed_of st))
 unfolding closed_at answer_at
 closed_later k n st low = by st.stage refl
   where
-    by : (s : Stage) → st.stage ≡ s → StandsAt (suc k) n s st → GoingOn ≡ so_far k (answer_of (closed_at s st))
+    by : (s : Stage) → st.stage ≡ s → StandsAt (suc k) n s st → None ≡ so_far k (answer_of (closed_at s st))
     by Start e h = not_yet k _ (omega (arith, next_number_lem st n h))
     by BetweenBatches e h = not_yet k _ (omega (arith, next_number_lem st n h))
     by InBatch e h = not_yet k _ (omega (arith, next_number_lem st n h))
@@ -80,7 +79,7 @@ after : (k : ℕ) (st : Running) (left : List (List ℕ)) → Stands 0 k st → 
 unfolding answer_at
 after k st left = by st.stage refl
   where
-    later : (s : Stage) → st.stage ≡ s → answer_at s st ≡ GoingOn → StandsAt (suc k) k s st →
+    later : (s : Stage) → st.stage ≡ s → answer_at s st ≡ None → StandsAt (suc k) k s st →
         answer_of st ≡ so_far k (answer_of (closed_of (fed_all st left)))
     later s e going h =
         ap (λ s. answer_at s st) e ∙ going ∙
@@ -95,7 +94,7 @@ after k st left = by st.stage refl
     by Closed e h = absurd h
     by (Refused x) e h =
         let kept : closed_of (fed_all st left) ≡ st = ap closed_of (stays.fed_all_lem x st left e) ∙ stays.closed x st e in
-        let is : answer_of st ≡ refused x = stays.answer_of_lem st x e in
+        let is : answer_of st ≡ Some (Err x) = stays.answer_of_lem st x e in
         is ∙ given k x h.1 ∙ ap (so_far k) (sym (ap answer_of kept ∙ is))
 
 -- THE THEOREM: "Equality with the whole holds for records without LF"
@@ -120,18 +119,18 @@ called_all x st (feed r ∷ calls) e = ap (λ next. called next calls) (stays.fe
 called_all x st (close ∷ calls) e = ap (λ next. called next calls) (stays.closed x st e) ∙ called_all x st calls e
 
 -- "Once refused, every later call gives that same refusal", in every state
-pub refused_for_good : (st : Running) (x : Refusal) → answer_of st ≡ refused x → RefusedForGood st x
+pub refused_for_good : (st : Running) (x : Refusal) → answer_of st ≡ Some (Err x) → RefusedForGood st x
 unfolding card_file_row
 refused_for_good st x e calls = ap card_file_row (ap answer_of (called_all x st calls (stays.stage_of_lem st x e)) ∙ e)
 
 -- "A bad edition is refused, 1, from the start"
 
 -- an accepted answer is that of a closed run
-pub closed_stage : (st : Running) (answer : AcceptedFile) → answer_of st ≡ accepted answer → st.stage ≡ Closed
+pub closed_stage : (st : Running) (answer : AcceptedFile) → answer_of st ≡ Some (Ok answer) → st.stage ≡ Closed
 unfolding answer_at
 closed_stage st answer = by st.stage
   where
-    by : (s : Stage) → answer_at s st ≡ accepted answer → s ≡ Closed
+    by : (s : Stage) → answer_at s st ≡ Some (Ok answer) → s ≡ Closed
     by Start e = cc
     by BetweenBatches e = cc
     by InBatch e = cc
@@ -140,7 +139,7 @@ closed_stage st answer = by st.stage
     by (Refused x) e = cc
 
 -- "After an accepted close, a further record is 13 and a further close the same answer", in every state
-pub after_accepted_close : (st : Running) (answer : AcceptedFile) → answer_of st ≡ accepted answer → AfterAcceptedClose st
+pub after_accepted_close : (st : Running) (answer : AcceptedFile) → answer_of st ≡ Some (Ok answer) → AfterAcceptedClose st
 unfolding answer_at took_at closed_at late_at
 after_accepted_close st answer e =
     let s = closed_stage st answer e in
@@ -151,7 +150,7 @@ after_accepted_close st answer e =
 
 -- and the record is "one past the last"
 pub one_past_the_last : (edition : ℕ) (records : List (List ℕ)) (answer : AcceptedFile) →
-    answer_of (closed_of (fed_all (open_of edition) records)) ≡ accepted answer → OnePastTheLast edition records
+    answer_of (closed_of (fed_all (open_of edition) records)) ≡ Some (Ok answer) → OnePastTheLast edition records
 unfolding answer_at closed_at
 one_past_the_last edition records answer =
     by (fed_all (open_of edition) records).stage refl (fed_open edition records)
@@ -159,7 +158,7 @@ one_past_the_last edition records answer =
     st : Running
     st = fed_all (open_of edition) records
 
-    by : (s : Stage) → st.stage ≡ s → StandsAt 0 (length records) s st → answer_of (closed_at s st) ≡ accepted answer →
+    by : (s : Stage) → st.stage ≡ s → StandsAt 0 (length records) s st → answer_of (closed_at s st) ≡ Some (Ok answer) →
         next_number (closed_at s st) ≡ suc (length records)
     by Start t h e = cc
     by BetweenBatches t h e = cc

@@ -12,18 +12,17 @@ use Rattle.pan.proofs.Tests.{by_test}
 use Rattle.pan.proofs.HiddenPlaces.{hidden_inside}
 use Rattle.lines.specs.Lines.{cr, ends_in_cr, without_last}
 use Rattle.lines.proofs.Ends.{record_and_cr}
-use Rattle.card_record.specs.declared.card_part.CardPart.{CardPart}
-use Rattle.card_record.specs.declared.card_part.CardPart.TheVariants.{From, Nowhere}
 use Rattle.card_record.specs.CardPart.{card_part, card_from}
 use Rattle.card_record.proofs.CardParts.{card_inside}
 use Rattle.demands.specs.HiddenDigits.{hidden_at, hidden_in_record, hidden_in_piece, hidden_in_pieces}
+use Rattle.std.specs.Prelude.{None, Option, Some}
 
 -- no card, nothing hidden
-pub no_card_lem : (r : List ℕ) → card_part r ≡ Nowhere → (i : ℕ) → hidden_in_record r i ≡ false
+pub no_card_lem : (r : List ℕ) → card_part r ≡ None → (i : ℕ) → hidden_in_record r i ≡ false
 unfolding hidden_at
 no_card_lem r e i = ap (λ part. hidden_at part r i) e
 
-module _ (k : ℕ) (r : List ℕ) (has : card_part r ≡ From k) where
+module _ (k : ℕ) (r : List ℕ) (has : card_part r ≡ Some k) where
   -- in the card, its hidden places
   pub in_card : (j : ℕ) → hidden_in_record r (k + j) ≡ hidden_place (card_from k r) j
   unfolding hidden_at
@@ -48,9 +47,9 @@ module _ (k : ℕ) (r : List ℕ) (has : card_part r ≡ From k) where
 pub past_record : (r : List ℕ) (i : ℕ) → length r ≤ i → hidden_in_record r i ≡ false
 past_record r i h = by (card_part r) refl
   where
-    by : (part : CardPart) → card_part r ≡ part → hidden_in_record r i ≡ false
-    by Nowhere e = no_card_lem r e i
-    by (From k) e =
+    by : (part : (Option ℕ)) → card_part r ≡ part → hidden_in_record r i ≡ false
+    by None e = no_card_lem r e i
+    by (Some k) e =
         let inside = card_inside k r e in
         let n : i ≡ k + 19 + (i - (k + 19)) = omega arith in
         ap (hidden_in_record r) n ∙ behind_card k r e (i - (k + 19))

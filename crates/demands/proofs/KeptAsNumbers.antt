@@ -5,12 +5,11 @@ use mathlib.Core.List.{List, ◌∷◌, ◌++◌}
 use mathlib.Core.Bool.{not}
 use lib.ListN.{get_or}
 use lib.Dec.{eqb}
-use Rattle.card_run.specs.declared.answer.CardAnswer.{CardAnswer}
-use Rattle.card_run.specs.Answer.{CardFileRow, card_file_row}
+use Rattle.card_run.specs.Answer.{CardFileRow, card_file_row, CardAnswer}
 use Rattle.card_run.proofs.FileRows.{same_answer}
 use Rattle.payroll_run.specs.State.{opened}
 use Rattle.payroll_file.specs.Answer.{payroll_row}
-use Rattle.payroll_stream.specs.declared.Progress.{Progress}
+use Rattle.payroll_stream.specs.Stream.{PayrollProgress}
 use Rattle.payroll_stream.specs.declared.feeding.Feeding.{Feeding}
 use Rattle.payroll_stream.specs.Stream.{progress_row}
 use Rattle.answer_rows.specs.Card.{card_row_as_list, card_numbers}
@@ -51,11 +50,11 @@ card_fixed : (a b : CardAnswer) → card_numbers a ≡ card_numbers b → a ≡ 
 card_fixed a b e = same_answer a b (sym (row_again (card_file_row a)) ∙ ap row_in e ∙ row_again (card_file_row b))
 
 -- a payroll file's answer is kept, behind a state
-payroll_fixed : (p q : Progress) → progress_numbers p ≡ progress_numbers q → p ≡ q
+payroll_fixed : (p q : PayrollProgress) → progress_numbers p ≡ progress_numbers q → p ≡ q
 unfolding feeding_numbers
 payroll_fixed p q e = sym (again p) ∙ ap (λ l. (feeding_of (running_numbers opened ++ l)).progress) e ∙ again q
   where
-    again : (p : Progress) → (feeding_of (running_numbers opened ++ progress_numbers p)).progress ≡ p
+    again : (p : PayrollProgress) → (feeding_of (running_numbers opened ++ progress_numbers p)).progress ≡ p
     again p = ap (λ (f : Feeding). f.progress) (feeding_again (record { state = opened; progress = p }))
 
 not_opened : NotOpened

@@ -9,42 +9,39 @@ use lib.ListN.{length}
 use lib.Dec.{leb}
 use Rattle.refusal.specs.declared.Refusal.{Refusal}
 use Rattle.refusal.specs.Row.{no_refusal}
-use Rattle.card_run.specs.declared.answer.CardAnswer.{CardAnswer}
-use Rattle.card_run.specs.declared.answer.CardAnswer.TheVariants.{GoingOn, Accepted, Refused}
 use Rattle.card_run.specs.Running.{no_numbers}
-use Rattle.card_run.specs.Answer.{card_file_row}
+use Rattle.card_run.specs.Answer.{card_file_row, CardAnswer}
 use Rattle.card_mask.specs.Mask.{masked_into}
 use Rattle.card_sheet.specs.SheetOf.{sheet_into}
 use Rattle.sheet_numbers.specs.declared.sheet.Sheet.{Sheet}
-use Rattle.day_sheet.specs.declared.writer.SheetWritten.{SheetWritten}
-use Rattle.day_sheet.specs.declared.writer.SheetWritten.TheVariants.{Written, Refused as not_written}
-use Rattle.day_sheet.specs.declared.reader.SheetRead.{SheetRead}
-use Rattle.day_sheet.specs.declared.reader.SheetRead.TheVariants.{Read, Refused as unreadable}
 use Rattle.day_sheet.specs.Reading.{read_of}
 use Rattle.day_sheet.specs.Writing.{sheet_width, put_answer, put_result}
 use Rattle.sheet_numbers.specs.Converted.{converted}
 use Rattle.day_sheet.specs.Conversion.{convert_answer, convert_result}
 use Rattle.day_sheet.specs.Answer.{no_sheet, written_row}
+use Rattle.day_sheet.specs.Reading.{SheetRead}
+use Rattle.day_sheet.specs.Writing.{SheetWritten}
 use Rattle.day_sheet.proofs.Writings.{PutOrRefused, put_or_refused}
 use Rattle.demands.specs.LentBuffers.{IfRefused, RefusedLeavesAlone}
+use Rattle.std.specs.Prelude.{Err, None, Ok, Some}
 
 -- a card file's answer: the output that goes with a refusal is the one lent
-card_alone : (into : CardAnswer → List ℕ) (out after : List ℕ) → ((r : Refusal) → into (Refused r) ≡ out) → (answer : CardAnswer) →
+card_alone : (into : CardAnswer → List ℕ) (out after : List ℕ) → ((r : Refusal) → into (Some (Err r)) ≡ out) → (answer : CardAnswer) →
     after ≡ into answer → IfRefused (card_file_row answer).refusal (after ≡ out) ((card_file_row answer).numbers ≡ no_numbers)
 unfolding card_file_row
-card_alone into out after same GoingOn e refused = absurd (refused refl)
-card_alone into out after same (Accepted a) e refused = absurd (refused refl)
-card_alone into out after same (Refused r) e refused =
+card_alone into out after same None e refused = absurd (refused refl)
+card_alone into out after same (Some (Ok a)) e refused = absurd (refused refl)
+card_alone into out after same (Some (Err r)) e refused =
     record { lent = e ∙ same r; counts = refl }
 
 -- writing answers no numbers
 no_sheet_lem : (answer : SheetWritten) → written_row answer ≡ no_sheet (written_row answer).refusal
 unfolding written_row
-no_sheet_lem Written = refl
-no_sheet_lem (not_written r) = refl
+no_sheet_lem (Ok tt) = refl
+no_sheet_lem (Err r) = refl
 
 -- where there is no room the output stays
-by_room : (wide : Bool) (r : Refusal) (put out : List ℕ) {answer : SheetWritten} → answer ≡ cond wide Written (not_written r) →
+by_room : (wide : Bool) (r : Refusal) (put out : List ℕ) {answer : SheetWritten} → answer ≡ cond wide (Ok tt) (Err r) →
     ((written_row answer).refusal ≡ no_refusal → ⊥) → cond wide put out ≡ out
 unfolding written_row
 by_room true r put out e refused = absurd (refused (ap (λ a. (written_row a).refusal) e))
@@ -64,8 +61,8 @@ not_written_lem sheet out (inr left) refused = left.2
 not_converted : (read : SheetRead) (out : List ℕ) {answer : SheetWritten} → answer ≡ convert_answer read (length out) →
     ((written_row answer).refusal ≡ no_refusal → ⊥) → convert_result read out ≡ out
 unfolding convert_answer convert_result
-not_converted (Read sheet) out e refused = not_put (converted sheet) out e refused
-not_converted (unreadable r) out e refused = refl
+not_converted (Ok sheet) out e refused = not_put (converted sheet) out e refused
+not_converted (Err r) out e refused = refl
 
 -- THE THEOREM
 pub refused_leaves_alone : RefusedLeavesAlone

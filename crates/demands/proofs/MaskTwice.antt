@@ -11,9 +11,7 @@ use lib.Seq.{take_at}
 use Rattle.pan.specs.AgreeOutside.{AgreeOutside}
 use Rattle.pan.proofs.Stars.{own_equal}
 use Rattle.card_run.specs.declared.answer.Accepted.{Accepted as Numbers}
-use Rattle.card_run.specs.declared.answer.CardAnswer.{CardAnswer}
-use Rattle.card_run.specs.declared.answer.CardAnswer.TheVariants.{Accepted}
-use Rattle.card_run.specs.Answer.{card_file_row}
+use Rattle.card_run.specs.Answer.{card_file_row, CardAnswer}
 use Rattle.card_run.proofs.FileRows.{is_accepted_lem}
 use Rattle.card_file.proofs.Rooms.{as_checked, right_edition, was_checked}
 use Rattle.card_mask.specs.Masked.{masked_record, masked_file}
@@ -26,6 +24,7 @@ use Rattle.demands.proofs.MaskedFiles.{same_check}
 use Rattle.demands.proofs.MaskedHidden.{same_hidden}
 use Rattle.demands.proofs.MaskedPlaces.{stars_where_hidden}
 use Rattle.demands.proofs.ToldAlike.{told_alike}
+use Rattle.std.specs.Prelude.{Ok, Some}
 
 -- a file and its masked form have one masked form
 records : (r s : List ℕ) → RecordAndMasked r s → masked_record r ≡ masked_record s
@@ -35,7 +34,7 @@ files : (s t : List ℕ) → FileAndMasked s t → masked_file s ≡ masked_file
 files s t e = sym (ap masked_file e ∙ file_again s)
 
 -- what masking an accepted file leaves
-leaves_copy : (edition : ℕ) (file out : List ℕ) (a : Numbers) → mask_answer edition file (length out) ≡ Accepted a →
+leaves_copy : (edition : ℕ) (file out : List ℕ) (a : Numbers) → mask_answer edition file (length out) ≡ Some (Ok a) →
     masked_into (mask_answer edition file (length out)) file out ≡ masked_file file ++ drop (length file) out
 unfolding masked_into
 leaves_copy edition file out a e = ap (λ answer. masked_into answer file out) e
@@ -47,12 +46,12 @@ written_again : (edition : ℕ) (file out other : List ℕ) (answer again : Card
     (card_file_row again ≡ card_file_row answer) × (after-again ≡ take (length file) after ++ drop (length file) other)
 written_again edition file out other answer again after after-again m accepts room n =
     let a = (card_file_row answer).numbers in
-    let first : mask_answer edition file (length out) ≡ Accepted a = sym m.answers ∙ is_accepted_lem answer accepts in
+    let first : mask_answer edition file (length out) ≡ Some (Ok a) = sym m.answers ∙ is_accepted_lem answer accepts in
     let copy : take (length file) after ≡ masked_file file =
     ap (take (length file)) (m.leaves ∙ leaves_copy edition file out a first) ∙ take_at (masked_file file) (drop (length file) out) (length file) (masked_length file) in
     let wide = masked_length file in
     let n : Masks edition (masked_file file) other again after-again = subst (λ l. Masks edition l other again after-again) copy n in
-    let next : mask_answer edition (masked_file file) (length other) ≡ Accepted a =
+    let next : mask_answer edition (masked_file file) (length other) ≡ Some (Ok a) =
     as_checked edition (masked_file file) (length (masked_file file)) (length other) (right_edition edition file (length file) (length out) a first) (omega arith) ∙
     same_check edition file ∙
     was_checked edition file (length file) (length out) a first in (

@@ -15,14 +15,13 @@ use Rattle.card_record.specs.CardPart.{card_part}
 use Rattle.card_record.specs.Kind.{kind_named}
 use Rattle.card_record.specs.Reading.{card_of}
 use Rattle.card_record.proofs.CardParts.{card_if, clear_of, kind_clear}
-use Rattle.sale_field.specs.declared.FieldAnswer.{FieldAnswer}
-use Rattle.sale_field.specs.declared.FieldAnswer.TheVariants.{Offered, Refused}
 use Rattle.sale_field.proofs.Below.{all_below_lem, each_below}
 use Rattle.sale_field.proofs.Offers.{is_sale_lem, is_offered, is_field, is_empty}
-use Rattle.sale_field.specs.Field.{offered, numbered, refusal_of, field_of, place_as, place_of_field}
+use Rattle.sale_field.specs.Field.{offered, numbered, refusal_of, field_of, place_as, place_of_field, FieldAnswer}
 use Rattle.card_mask.specs.Masked.{masked_record}
 use Rattle.card_mask.proofs.Pieces.{record_length}
 use Rattle.demands.proofs.MaskedRecords.{same_part}
+use Rattle.std.specs.Prelude.{Err, Ok}
 
 -- each field that is offered keeps clear of a sale's card
 keeps_clear : (n : ℕ) → offered n ≡ true → clear_of (card_of Cv) (numbered n) ≡ true
@@ -34,7 +33,7 @@ keeps_clear n e =
     rw e at is
 
 -- the record of which a field is offered has a sale's card
-sale_card : (r : List ℕ) (n : ℕ) → refusal_of r n ≡ Offered → card_part r ≡ card_of Cv
+sale_card : (r : List ℕ) (n : ℕ) → refusal_of r n ≡ (Ok tt) → card_part r ≡ card_of Cv
 unfolding kind_named
 sale_card r n e =
     let is = is_sale_lem r n e in
@@ -51,14 +50,14 @@ module _ (r : List ℕ) (n : ℕ) where
   same_place = ap (λ answer. place_as answer (masked_record r) n) same_refusal ∙ by (refusal_of r n)
     where
       by : (answer : FieldAnswer) → place_as answer (masked_record r) n ≡ place_as answer r n
-      by Offered = rw (record_length r)
-      by (Refused x) = refl
+      by (Ok tt) = rw (record_length r)
+      by (Err x) = refl
 
   pub same_field : field_of (masked_record r) n ≡ field_of r n
   same_field = by (refusal_of r n) refl
     where
       by : (answer : FieldAnswer) → refusal_of r n ≡ answer → field_of (masked_record r) n ≡ field_of r n
-      by Offered e =
+      by (Ok tt) e =
           let clear = ap (λ part. clear_of part (numbered n)) (sale_card r n e) ∙ keeps_clear n (is_offered r n e) in
           is_field (masked_record r) n (same_refusal ∙ e) ∙ same_part r (numbered n) clear ∙ sym (is_field r n e)
-      by (Refused x) e = is_empty (masked_record r) n x (same_refusal ∙ e) ∙ sym (is_empty r n x e)
+      by (Err x) e = is_empty (masked_record r) n x (same_refusal ∙ e) ∙ sym (is_empty r n x e)

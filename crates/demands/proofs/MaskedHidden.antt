@@ -11,24 +11,23 @@ use Rattle.pan.proofs.Masking.{masked_hidden}
 use Rattle.lines.specs.Lines.{Lines, cr, cut, ends_in_cr, without_last}
 use Rattle.lines.proofs.Cuts.{cut_is_cut}
 use Rattle.lines.proofs.Ends.{cr_ends, before_last}
-use Rattle.card_record.specs.declared.card_part.CardPart.{CardPart}
-use Rattle.card_record.specs.declared.card_part.CardPart.TheVariants.{From, Nowhere}
 use Rattle.card_record.specs.CardPart.{card_part, card_from}
 use Rattle.card_mask.specs.Masked.{masked_at, masked_record, masked_piece, masked_file}
 use Rattle.card_mask.proofs.Pieces.{no_record, piece_length}
 use Rattle.card_mask.proofs.MaskedCard.{masked_card}
 use Rattle.card_mask.proofs.Again.{cut_masked}
 use Rattle.demands.specs.HiddenDigits.{hidden_at, hidden_in_record, hidden_in_piece, hidden_in_pieces, hidden_in}
+use Rattle.std.specs.Prelude.{None, Option, Some}
 
 pub same_hidden_record : (r : List ℕ) (i : ℕ) → hidden_in_record (masked_record r) i ≡ hidden_in_record r i
 unfolding masked_at hidden_at
 same_hidden_record r i = by (card_part r) refl
   where
-    by : (part : CardPart) → card_part r ≡ part → hidden_in_record (masked_at part r) i ≡ hidden_in_record r i
-    by Nowhere e = refl
-    by (From k) e =
+    by : (part : (Option ℕ)) → card_part r ≡ part → hidden_in_record (masked_at part r) i ≡ hidden_in_record r i
+    by None e = refl
+    by (Some k) e =
         let is = masked_card k r e in
-        ap (λ part. hidden_at part (masked_at (From k) r) i) is.has_too ∙
+        ap (λ part. hidden_at part (masked_at (Some k) r) i) is.has_too ∙
         ap (λ card. leb k i && hidden_place card (i - k)) is.card ∙
         ap (λ h. leb k i && h) (masked_hidden (card_from k r) (i - k)) ∙
         sym (ap (λ part. hidden_at part r i) e)

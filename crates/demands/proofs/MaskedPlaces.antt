@@ -13,13 +13,12 @@ use Rattle.pan.proofs.Stars.{same_tests, none_picked, in_a_row}
 use Rattle.lines.specs.Lines.{cr, lf, cut, rejoined, ends_in_cr, without_last}
 use Rattle.lines.proofs.Cuts.{cut_is_cut}
 use Rattle.lines.proofs.Ends.{record_and_cr}
-use Rattle.card_record.specs.declared.card_part.CardPart.{CardPart}
-use Rattle.card_record.specs.declared.card_part.CardPart.TheVariants.{From, Nowhere}
 use Rattle.card_record.specs.CardPart.{card_part, card_from}
 use Rattle.card_record.proofs.CardParts.{card_inside}
 use Rattle.card_mask.specs.Masked.{masked_at, masked_record, masked_piece, masked_file}
 use Rattle.demands.specs.HiddenDigits.{hidden_in_record, hidden_in_piece, hidden_in_pieces, hidden_in}
 use Rattle.demands.proofs.HiddenPlaces.{no_card_lem, in_card, before_card, behind_card, past_record, past_piece, in_none, in_first, in_later}
+use Rattle.std.specs.Prelude.{None, Option, Some}
 
 -- starred in two parts
 in_parts : (p : ℕ → Bool) (n : ℕ) (s : List ℕ) → n ≤ length s → star_where p s ≡ star_where p (take n s) ++ star_where (λ i. p (n + i)) (drop n s)
@@ -32,9 +31,9 @@ of_record : (r : List ℕ) → masked_record r ≡ star_where (hidden_in_record 
 unfolding masked_at
 of_record r = by (card_part r) refl
   where
-    by : (part : CardPart) → card_part r ≡ part → masked_record r ≡ star_where (hidden_in_record r) r
-    by Nowhere e = ap (λ part. masked_at part r) e ∙ sym (none_picked (hidden_in_record r) r (λ i l. no_card_lem r e i))
-    by (From k) e =
+    by : (part : (Option ℕ)) → card_part r ≡ part → masked_record r ≡ star_where (hidden_in_record r) r
+    by None e = ap (λ part. masked_at part r) e ∙ sym (none_picked (hidden_in_record r) r (λ i l. no_card_lem r e i))
+    by (Some k) e =
         let inside = card_inside k r e in
         let front = take (k + 19) r in
         let wide : length front ≡ k + 19 = length-take-le (k + 19) r inside in

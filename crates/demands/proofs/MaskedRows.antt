@@ -17,7 +17,6 @@ use Rattle.lines.proofs.Cuts.{cut_is_cut}
 use Rattle.lines.proofs.Ends.{cr_ends, before_last}
 use Rattle.card_content.specs.declared.content.Content.TheVariants.{Text}
 use Rattle.card_content.specs.Field.{field}
-use Rattle.card_record.specs.declared.card_part.CardPart.TheVariants.{From}
 use Rattle.card_record.specs.declared.kind.Kind.TheVariants.{Aj}
 use Rattle.card_record.specs.CardPart.{card_part}
 use Rattle.card_record.specs.Kind.{kind_named}
@@ -30,9 +29,10 @@ use Rattle.adjustment_rows.specs.Row.{row_of}
 use Rattle.adjustment_rows.specs.Rows.{is_adjustment, row_in, rows_of}
 use Rattle.adjustment_rows.proofs.WithoutCard.{no_card_lem}
 use Rattle.demands.proofs.MaskedRecords.{same_part}
+use Rattle.std.specs.Prelude.{Some}
 
 -- an adjustment has its card where its kind has it
-card_there : (r : List ℕ) → is_adjustment r ≡ true → card_part r ≡ From 162
+card_there : (r : List ℕ) → is_adjustment r ≡ true → card_part r ≡ Some 162
 unfolding kind_named same_bytes
 card_there r a =
     let named : Bool = same_bytes (positions 1 2 r) (ascii "AJ") in
@@ -48,7 +48,7 @@ same_kind r =
 same_row : (number : ℕ) (r : List ℕ) → is_adjustment r ≡ true → row_of number (masked_record r) ≡ row_of number r
 same_row number r a =
     let there = card_there r a in
-    ap (λ part. row_of number (masked_at part r)) there ∙ sym (no_card_lem number r (masked_at (From 162) r) (masked_card 162 r there).outside)
+    ap (λ part. row_of number (masked_at part r)) there ∙ sym (no_card_lem number r (masked_at (Some 162) r) (masked_card 162 r there).outside)
 
 -- of a record, and of a piece
 row_or_none : (number : ℕ) (r : List ℕ) →

@@ -10,8 +10,6 @@ use lib.ListN.{length, length-map}
 use lib.Dec.{leb}
 use borrow.Author.Tests.{le-leb, lt-leb, ne_eqb}
 use Rattle.refusal.specs.declared.Cause.TheVariants.{BytesAfterTheEnd}
-use Rattle.refusal.specs.declared.Fault.{Fault}
-use Rattle.refusal.specs.declared.Fault.TheVariants.{Nothing, At}
 use Rattle.refusal.specs.declared.Refusal.{Refusal}
 use Rattle.refusal.specs.RefusalList.{number_of}
 use Rattle.refusal.specs.Rules.{first_broken}
@@ -26,17 +24,14 @@ use Rattle.payroll_run.specs.declared.running.Running.{Running}
 use Rattle.payroll_run.specs.State.{opened, next_number, refusal_at}
 use Rattle.payroll_step.specs.Step.{took_at}
 use Rattle.payroll_file.specs.declared.answer.Accepted.{Accepted as PayrollNumbers}
-use Rattle.payroll_file.specs.declared.answer.PayrollAnswer.{PayrollAnswer}
-use Rattle.payroll_file.specs.declared.answer.PayrollAnswer.TheVariants.{Accepted as accepted, Refused as refused}
-use Rattle.payroll_file.specs.Answer.{going_on_row, refused_row, payroll_row}
+use Rattle.payroll_file.specs.Answer.{going_on_row, refused_row, payroll_row, PayrollAnswer}
+use Rattle.payroll_stream.specs.Stream.{PayrollProgress}
 use Rattle.payroll_file.specs.PayrollFile.{line_of, lines_of, end_at, end_of, ran_of, check_of}
 use Rattle.payroll_kept.specs.FirstFaultOfFile.{next_rules}
 use Rattle.payroll_kept.proofs.Refused.{lines_same}
 use Rattle.payroll_kept.proofs.Payments.{took_records, lines_are}
 use Rattle.payroll_kept.proofs.Pieces.{answered, rest_answered}
 use Rattle.payroll_kept.proofs.Standing.{Stands, next_number_lem, lines_taken_lem, from_open}
-use Rattle.payroll_stream.specs.declared.Progress.{Progress}
-use Rattle.payroll_stream.specs.declared.Progress.TheVariants.{GoingOn, Answered}
 use Rattle.payroll_stream.specs.declared.feeding.Feeding.{Feeding}
 use Rattle.payroll_stream.specs.Stream.{behind_end, so_far, answer_at, progress_row}
 use Rattle.payroll_stream.specs.Feeding.{open_feeding, fed_at, fed_of, fed_all, closed_at, closed_with, answer_of}
@@ -50,10 +45,12 @@ use Rattle.demands.specs.PayrollFeeding.{
   PayrollAfterAcceptedClose,
 }
 use Rattle.demands.proofs.PayrollAfterEnd.{refused_stage, accepted_progress}
+use Rattle.refusal.specs.Fault.{Judged}
+use Rattle.std.specs.Prelude.{Err, None, Ok, Some}
 
 -- feeding records to a file that goes on takes them one by one
 abbrev going_on : Running → Feeding
-going_on st = record { state = st; progress = GoingOn }
+going_on st = record { state = st; progress = None }
 
 fed_state : (st : Running) (rs : List (List ℕ)) → fed_all (going_on st) rs ≡ going_on (took_records st rs)
 unfolding fed_at took_records
@@ -74,53 +71,53 @@ file_is rs more clear =
 
 -- closing gives the file's answer
 whole : (rs : List (List ℕ)) (left : List ℕ) → all_no_lf rs ≡ true → no_lf left ≡ true →
-    answer_of (closed_with (fed_all open_feeding rs) left) ≡ Answered (check_of (joined rs ++ left))
+    answer_of (closed_with (fed_all open_feeding rs) left) ≡ Some (check_of (joined rs ++ left))
 unfolding closed_at answer_at lines_of
 whole rs left clear clear-left =
     ap (λ f. answer_of (closed_with f left)) (fed_state opened rs) ∙
-    ap Answered (sym (file_is rs left clear ∙ ap (ran_of (took_records opened rs)) (only_rest left clear-left)))
+    ap Some (sym (file_is rs left clear ∙ ap (ran_of (took_records opened rs)) (only_rest left clear-left)))
 
 -- the refusal up to the k-th record, of an answer
-abbrev up_to : ℕ → PayrollAnswer → Progress
-up_to k (accepted a) = GoingOn
-up_to k (refused x) = cond (leb x.«record» k) (Answered (refused x)) GoingOn
+abbrev up_to : ℕ → PayrollAnswer → PayrollProgress
+up_to k (Ok a) = None
+up_to k (Err x) = cond (leb x.«record» k) (Some (Err x)) None
 
 -- as the row tells
 row_up_to : (k : ℕ) (answer : PayrollAnswer) → progress_row (up_to k answer) ≡ payroll_up_to k (payroll_row answer)
 unfolding payroll_row progress_row
-row_up_to k (accepted a) = refl
-row_up_to k (refused x) =
+row_up_to k (Ok a) = refl
+row_up_to k (Err x) =
     let some : number_of x.cause ≡ 0 → ⊥ = λ e. omega (arith, from_one x.cause) in
     by (leb x.«record» k) ∙ sym (rw (ne_eqb (number_of x.cause) 0 some))
   where
-    by : (t : Bool) → progress_row (cond t (Answered (refused x)) GoingOn) ≡ cond t (refused_row x) going_on_row
+    by : (t : Bool) → progress_row (cond t (Some (Err x)) None) ≡ cond t (refused_row x) going_on_row
     by true = refl
     by false = refl
 
 -- a refusal is given from its record on, and not before
-given : (k : ℕ) (x : Refusal) → x.«record» ≤ k → Answered (refused x) ≡ up_to k (refused x)
+given : (k : ℕ) (x : Refusal) → x.«record» ≤ k → Some (Err x) ≡ up_to k (Err x)
 given k x h = rw (le-leb x.«record» k h)
 
-not_yet : (k : ℕ) (x : Refusal) → k < x.«record» → GoingOn ≡ up_to k (refused x)
+not_yet : (k : ℕ) (x : Refusal) → k < x.«record» → None ≡ up_to k (Err x)
 not_yet k x h = rw (lt-leb x.«record» k h)
 
 -- a refused run ends with its refusal
-ends_refused : (st : Running) (x : Refusal) (left : List ℕ) → st.stage ≡ Refused x → end_of st left ≡ refused x
+ends_refused : (st : Running) (x : Refusal) (left : List ℕ) → st.stage ≡ Refused x → end_of st left ≡ Err x
 unfolding end_at
 ends_refused st x left q = ap (λ s. end_at s st left) q
 
 -- a run refused from the record behind the k-th on, or not at all, has no refusal up to the k-th when it ends
-ended_later : (k n : ℕ) (st : Running) (left : List ℕ) → k ≤ n → Stands (suc k) n st → GoingOn ≡ up_to k (end_of st left)
+ended_later : (k n : ℕ) (st : Running) (left : List ℕ) → k ≤ n → Stands (suc k) n st → None ≡ up_to k (end_of st left)
 ended_later k n st left low (inl w) =
     by (first_broken (next_rules st (rest left))) ∙ ap (up_to k) (sym (rest_answered st left w.came.going))
   where
-    by : (fault : Fault) → GoingOn ≡ up_to k (answered st fault)
-    by Nothing = refl
-    by (At cause column) = not_yet k (refusal_at cause column st) (omega (arith, next_number_lem n st w))
+    by : (fault : Judged) → None ≡ up_to k (answered st fault)
+    by (Ok none) = refl
+    by (Err fault) = not_yet k (refusal_at fault.cause fault.column st) (omega (arith, next_number_lem n st w))
 ended_later k n st left low (inr w) = not_yet k w.refusal w.from ∙ ap (up_to k) (sym (ends_refused st w.refusal left w.at_stage))
 
 -- a run that is not refused has no answer yet
-none_yet_lem : (s : Stage) → ((x : Refusal) → s ≡ Refused x → ⊥) → so_far s ≡ GoingOn
+none_yet_lem : (s : Stage) → ((x : Refusal) → s ≡ Refused x → ⊥) → so_far s ≡ None
 unfolding so_far
 none_yet_lem Start going = refl
 none_yet_lem BetweenBatches going = refl
@@ -138,7 +135,7 @@ after k st ls (inl w) =
     ended_later k (k + length ls.pieces) (lines_of st ls.pieces) ls.rest (omega arith) (lines_taken_lem (suc k) k st ls.pieces (omega arith) (inl w))
 after k st ls (inr w) =
     let x = w.refusal in
-    let ran : ran_of st ls ≡ refused x =
+    let ran : ran_of st ls ≡ Err x =
     ap (λ next. end_of next ls.rest) (lines_same st x w.at_stage ls.pieces) ∙ ends_refused st x ls.rest w.at_stage in
     ap so_far w.at_stage ∙ given k x w.up_to_lem ∙ ap (up_to k) (sym ran)
 
@@ -180,33 +177,33 @@ payroll_fed_as_whole records clear =
 
 -- a refused file gives its refusal to a record more, and to the close: by its progress, and before the close by the stage of its state
 abbrev StaysRefused : Feeding → Refusal → Type 0
-StaysRefused f x = ((r : List ℕ) → answer_of (fed_of f r) ≡ Answered (refused x)) × ((left : List ℕ) → answer_of (closed_with f left) ≡ Answered (refused x))
+StaysRefused f x = ((r : List ℕ) → answer_of (fed_of f r) ≡ Some (Err x)) × ((left : List ℕ) → answer_of (closed_with f left) ≡ Some (Err x))
 
-stays_refused : (f : Feeding) (x : Refusal) → answer_of f ≡ Answered (refused x) → StaysRefused f x
+stays_refused : (f : Feeding) (x : Refusal) → answer_of f ≡ Some (Err x) → StaysRefused f x
 unfolding answer_at fed_at closed_at took_at so_far behind_end
 stays_refused f x e = by f.progress refl e
   where
-    by : (p : Progress) → f.progress ≡ p → answer_at p f.state ≡ Answered (refused x) → StaysRefused f x
-    by GoingOn g e =
+    by : (p : PayrollProgress) → f.progress ≡ p → answer_at p f.state ≡ Some (Err x) → StaysRefused f x
+    by None g e =
         let q = refused_stage f.state.stage x e in (
           λ r.
               ap (λ p. answer_of (fed_at p f r)) g ∙
               ap (λ (st : Running). so_far st.stage) (ap (λ s. took_at s f.state (reading_of r)) q) ∙ ap so_far q,
-          λ left. ap (λ p. answer_of (closed_at p f left)) g ∙ ap Answered (ends_refused f.state x left q),
+          λ left. ap (λ p. answer_of (closed_at p f left)) g ∙ ap Some (ends_refused f.state x left q),
         )
-    by (Answered a) g e =
+    by (Some a) g e =
         let h = g ∙ e in
         (λ r. ap (λ p. answer_of (fed_at p f r)) h, λ left. ap (λ p. answer_of (closed_at p f left)) h ∙ ap (λ p. answer_at p f.state) h)
 
 -- "Once refused, every later call gives that same refusal", in every state
-pub payroll_refused_for_good : (f : Feeding) (x : Refusal) → answer_of f ≡ Answered (refused x) → PayrollRefusedForGood f x
+pub payroll_refused_for_good : (f : Feeding) (x : Refusal) → answer_of f ≡ Some (Err x) → PayrollRefusedForGood f x
 unfolding payroll_called progress_row payroll_row
 payroll_refused_for_good f x e [] = ap progress_row e
 payroll_refused_for_good f x e (feed r ∷ calls) = payroll_refused_for_good (fed_of f r) x ((stays_refused f x e).0 r) calls
 payroll_refused_for_good f x e (close left ∷ calls) = payroll_refused_for_good (closed_with f left) x ((stays_refused f x e).1 left) calls
 
 -- a further record is 13 and a further close the same answer, in every state
-pub payroll_after_accepted_close : (f : Feeding) (a : PayrollNumbers) → answer_of f ≡ Answered (accepted a) → PayrollAfterAcceptedClose f
+pub payroll_after_accepted_close : (f : Feeding) (a : PayrollNumbers) → answer_of f ≡ Some (Ok a) → PayrollAfterAcceptedClose f
 unfolding answer_at fed_at closed_at behind_end
 payroll_after_accepted_close f a e =
     let g = accepted_progress f.progress f.state a e in

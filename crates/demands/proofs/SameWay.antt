@@ -12,8 +12,6 @@ use Rattle.pan.proofs.Tests.{by_test}
 use Rattle.lines.specs.Lines.{Lines, cr, cut, ends_in_cr, without_last}
 use Rattle.lines.proofs.Cuts.{cut_is_cut}
 use Rattle.lines.proofs.Ends.{cr_ends, before_last}
-use Rattle.card_record.specs.declared.card_part.CardPart.{CardPart}
-use Rattle.card_record.specs.declared.card_part.CardPart.TheVariants.{From, Nowhere}
 use Rattle.card_record.specs.declared.kind.Kind.{Kind}
 use Rattle.card_record.specs.declared.kind.Kind.TheVariants.{A0, L0, Cv, Aj, L9, A9}
 use Rattle.card_record.specs.CardPart.{card_part, card_from}
@@ -28,9 +26,10 @@ use Rattle.card_mask.proofs.Pieces.{no_record, record_length, piece_length}
 use Rattle.demands.specs.SameWay.{SameWay, ways_of, sizes_of}
 use Rattle.demands.proofs.ToldAlike.{alike}
 use Rattle.demands.proofs.TwinMasks.{twin_records, twin_files}
+use Rattle.std.specs.Prelude.{None, Option, Some}
 
 -- a record with its card masked is as wide as it was
-same_wide : (r : List ℕ) {part : CardPart} → card_part r ≡ part → length (masked_at part r) ≡ length r
+same_wide : (r : List ℕ) {part : (Option ℕ)} → card_part r ≡ part → length (masked_at part r) ≡ length r
 same_wide r e = ap (λ part. length (masked_at part r)) (sym e) ∙ record_length r
 
 -- a record that is not as wide as a sale goes the slow way
@@ -47,11 +46,11 @@ module _ (edition : ℕ) (r : List ℕ) where
       by_test (well_formed (card_from 87 r))
       (λ formed.
       let is = masked_card 87 r has in
-      sym (same_way r (masked_at (From 87) r) is.outside formed (ap well_formed is.card ∙ masked_formed (card_from 87 r) ∙ formed) edition
+      sym (same_way r (masked_at (Some 87) r) is.outside formed (ap well_formed is.card ∙ masked_formed (card_from 87 r) ∙ formed) edition
       (sym (same_wide r has))))
       (λ other. ap (passes_quick edition) (unformed_card 87 r other))
   by_kind Aj has wide =
-      not_so_wide edition 193 (masked_at (From 162) r) (same_wide r has ∙ wide) (λ e. omega arith) ∙ sym (not_so_wide edition 193 r wide (λ e. omega arith))
+      not_so_wide edition 193 (masked_at (Some 162) r) (same_wide r has ∙ wide) (λ e. omega arith) ∙ sym (not_so_wide edition 193 r wide (λ e. omega arith))
   by_kind L9 has wide = refl
   by_kind A9 has wide = refl
 
@@ -60,9 +59,9 @@ module _ (edition : ℕ) (r : List ℕ) where
   unfolding masked_at
   same_pass = by (card_part r) refl
     where
-      by : (part : CardPart) → card_part r ≡ part → passes_quick edition (masked_at part r) ≡ passes_quick edition r
-      by Nowhere e = refl
-      by (From k) e =
+      by : (part : (Option ℕ)) → card_part r ≡ part → passes_quick edition (masked_at part r) ≡ passes_quick edition r
+      by None e = refl
+      by (Some k) e =
           let has = has_card k r e in
           ap (λ part. passes_quick edition (masked_at part r)) (sym has.begins) ∙ by_kind has.kind (e ∙ sym has.begins) has.wide
 

@@ -10,10 +10,8 @@ use Rattle.lines.specs.Lines.{cut, finished_in}
 use Rattle.wording.specs.Put.{over_at}
 use Rattle.card_record.specs.Reading.{reading_of}
 use Rattle.card_run.specs.declared.running.Running.{Running}
-use Rattle.card_run.specs.declared.answer.CardAnswer.{CardAnswer}
-use Rattle.card_run.specs.declared.answer.CardAnswer.TheVariants.{GoingOn, Accepted, Refused}
 use Rattle.card_run.specs.Running.{open_of, closed_of}
-use Rattle.card_run.specs.Answer.{card_file_row}
+use Rattle.card_run.specs.Answer.{card_file_row, CardAnswer}
 use Rattle.card_file.specs.CardFile.{check_of}
 use Rattle.card_file.specs.Feeding.{fed_of, fed_all}
 use Rattle.card_file.specs.Room.{room_rules, answer_behind, answer_with_room}
@@ -35,6 +33,7 @@ use Rattle.demands.proofs.MaskedFields.{same_refusal, same_field, same_place}
 use Rattle.demands.proofs.MaskedFiles.{same_fed, same_check, same_finished}
 use Rattle.demands.proofs.MaskedRows.{same_rows_of_file}
 use Rattle.demands.proofs.ComeAlike.{written_alike, rows_written_alike, state_alike, waiting_alike, so_far_alike, printed_alike, taken_alike}
+use Rattle.std.specs.Prelude.{Err, None, Ok, Some}
 
 -- where a form is told as what it is the form of, all that share the form are told alike
 pub alike : {A : Type 0} (form : List ℕ → List ℕ) (tell : List ℕ → A) → ((s : List ℕ) → tell (form s) ≡ tell s) → {s t : List ℕ} → form s ≡ form t → tell s ≡ tell t
@@ -62,9 +61,9 @@ module _ (s t : List ℕ) (e : masked_file s ≡ masked_file t) where
   -- what masking leaves in the output
   output_alike : (answer : CardAnswer) (out : List ℕ) → masked_into answer s out ≡ masked_into answer t out
   unfolding masked_into
-  output_alike GoingOn out = refl
-  output_alike (Accepted a) out = ap₂ (λ copy wide. copy ++ drop wide out) e length_alike
-  output_alike (Refused x) out = refl
+  output_alike None out = refl
+  output_alike (Some (Ok a)) out = ap₂ (λ copy wide. copy ++ drop wide out) e length_alike
+  output_alike (Some (Err x)) out = refl
 
 module _ (AlikeRecords AlikeFiles : List ℕ → List ℕ → Type 0)
     (records : (r s : List ℕ) → AlikeRecords r s → masked_record r ≡ masked_record s)

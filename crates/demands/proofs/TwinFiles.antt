@@ -13,7 +13,7 @@ use Rattle.text.specs.Alphabet.{digit}
 use Rattle.pan.proofs.Tests.{by_test}
 use Rattle.lines.specs.Lines.{cr, lf, cut, rejoined, no_lf, all_no_lf, ends_in_cr, without_last}
 use Rattle.lines.proofs.Cuts.{cut_is_cut}
-use Rattle.lines.proofs.Ends.{last_byte, no_byte, all_but_one}
+use Rattle.lines.proofs.Ends.{all_but_one}
 use Rattle.demands.specs.HiddenDigits.{hidden_in_record, hidden_in_piece, hidden_in_pieces, hidden_in}
 use Rattle.demands.specs.TwinsMade.{DigitsChanged}
 use Rattle.demands.proofs.HiddenPlaces.{in_none, in_first, in_later}
@@ -94,6 +94,21 @@ changed_pieces s t w =
     let b = cut_is_cut t in
     one_by_one (cut s).pieces (cut t).pieces (cut s).rest (cut t).rest a.pieces_clear a.rest_clear b.pieces_clear b.rest_clear
     (changed_of (sym a.whole) (sym b.whole) w)
+
+-- a piece that ends in CR has a last byte, and it is that one
+no_byte : (s : List ℕ) → length s ≡ 0 → ends_in_cr s ≡ false
+unfolding ends_in_cr
+no_byte [] h = refl
+no_byte (b ∷ s) h = absurd (omega arith)
+
+last_byte : (s : List ℕ) → 0 < length s → ends_in_cr s ≡ eqb (get_or s (length s - 1) 0) cr
+unfolding ends_in_cr
+last_byte [] h = absurd (omega arith)
+last_byte (b ∷ s) h = let n : length s ≡ suc (length s) - 1 = omega arith in ends b s ∙ ap (λ (n : ℕ). eqb (get_or (b ∷ s) n 0) cr) n
+  where
+    ends : (b : ℕ) (s : List ℕ) → ends_in_cr (b ∷ s) ≡ eqb (get_or (b ∷ s) (length s) 0) cr
+    ends b [] = refl
+    ends b (c ∷ s) = ends c s
 
 -- if one of two pieces ends in CR, so does the other
 pub ends_too : {h : ℕ → Bool} (p q : List ℕ) → DigitsChanged h p q → ends_in_cr p ≡ true → ends_in_cr q ≡ true

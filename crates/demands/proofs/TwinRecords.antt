@@ -9,8 +9,6 @@ use Rattle.pan.specs.HiddenPlaces.{hidden_place}
 use Rattle.pan.specs.Twins.{Twins}
 use Rattle.pan.proofs.Twins.{twins_masked, twins_made}
 use Rattle.card_content.specs.EqualOutside.{EqualOutside}
-use Rattle.card_record.specs.declared.card_part.CardPart.{CardPart}
-use Rattle.card_record.specs.declared.card_part.CardPart.TheVariants.{From, Nowhere}
 use Rattle.card_record.specs.CardPart.{card_part, card_from}
 use Rattle.card_record.proofs.LawOfReading.{same_place}
 use Rattle.card_mask.specs.Masked.{masked_at, masked_record}
@@ -18,8 +16,9 @@ use Rattle.demands.specs.HiddenDigits.{hidden_in_record}
 use Rattle.demands.specs.TwinsMade.{DigitsChanged}
 use Rattle.demands.proofs.HiddenPlaces.{no_card_lem, in_card, before_card, behind_card}
 use Rattle.demands.proofs.TwinLaws.{none_hidden, changed_where, changed_front, changed_behind}
+use Rattle.std.specs.Prelude.{None, Option, Some}
 
-module _ (k : ℕ) (r s : List ℕ) (has : card_part r ≡ From k) (w : DigitsChanged (hidden_in_record r) r s) where
+module _ (k : ℕ) (r s : List ℕ) (has : card_part r ≡ Some k) (w : DigitsChanged (hidden_in_record r) r s) where
   -- equal outside the card
   outside_card : EqualOutside k (k + 19) r s
   outside_card =
@@ -29,7 +28,7 @@ module _ (k : ℕ) (r s : List ℕ) (has : card_part r ≡ From k) (w : DigitsCh
       }
 
   -- the other's card stands at the same place
-  has_too : card_part s ≡ From k
+  has_too : card_part s ≡ Some k
   has_too = same_place k r s has outside_card
 
   -- and the cards are twins
@@ -43,9 +42,9 @@ pub same_masked_record : (r s : List ℕ) → DigitsChanged (hidden_in_record r)
 unfolding masked_at
 same_masked_record r s w = by (card_part r) refl
   where
-    by : (part : CardPart) → card_part r ≡ part → masked_record r ≡ masked_record s
-    by Nowhere e = ap masked_record (none_hidden w (λ i l. no_card_lem r e i))
-    by (From k) e =
+    by : (part : (Option ℕ)) → card_part r ≡ part → masked_record r ≡ masked_record s
+    by None e = ap masked_record (none_hidden w (λ i l. no_card_lem r e i))
+    by (Some k) e =
         let same = outside_card k r s e w in
         ap (λ part. masked_at part r) e ∙
         ap₂ ◌++◌ same.before (ap₂ ◌++◌ (twins_masked (twin_cards k r s e w)) same.behind) ∙

@@ -2,9 +2,8 @@
 use Rattle.std.specs.Prelude.{ℕ, ◌≡◌, List}
 use Rattle.refusal.specs.declared.Cause.{Cause}
 use Rattle.refusal.specs.Nowhere.{nowhere}
-use Rattle.card_run.specs.declared.answer.CardAnswer.{CardAnswer}
 use Rattle.card_run.specs.Running.{open_of}
-use Rattle.card_run.specs.Answer.{refused_row, card_file_row}
+use Rattle.card_run.specs.Answer.{refused_row, card_file_row, CardAnswer}
 use Rattle.card_file.specs.CardFile.{check_of}
 use Rattle.card_stream.specs.Stream as card
 use Rattle.card_mask.specs.Mask.{Masks}

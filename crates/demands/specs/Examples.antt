@@ -1,10 +1,8 @@
 -- Document 01's examples marked (p), in its order, as one list and one statement.
-use Rattle.std.specs.Prelude.{ℕ, List, [], ◌∷◌, Bool, true, false, not, ◌&&◌, eqb}
+use Rattle.std.specs.Prelude.{ℕ, List, [], ◌∷◌, Bool, true, false, not, ◌&&◌, eqb, Err, Ok}
 use Prim.Native.String.{String}
 use Rattle.refusal.specs.Row.{RefusalRow}
 use Rattle.text.specs.Literal.{ascii, same_bytes}
-use Rattle.calendar.specs.declared.when.When.{When}
-use Rattle.calendar.specs.declared.when.When.TheVariants.{NotDigits, NoSuch, At}
 use Rattle.calendar.specs.Day.{year_first}
 use Rattle.pan.specs.Masked.{masked}
 use Rattle.card_run.specs.declared.running.Running.{Running}
@@ -12,6 +10,8 @@ use Rattle.card_run.specs.Running.{open_of}
 use Rattle.card_run.specs.Answer.{answer_of, card_file_row}
 use Rattle.card_file.specs.Feeding.{fed_of, fed_all}
 use Rattle.demands.specs.ExampleFile.{a0, l0, cash_sale}
+use Rattle.calendar.specs.declared.when.Unreadable.TheVariants.{NoSuch, NotDigits}
+use Rattle.calendar.specs.When.{When}
 
 pub data Example : Type 0 where
   -- a card field, and what masking gives
@@ -25,9 +25,9 @@ pub data Example : Type 0 where
 
 -- whether a part names a day
 abbrev names_day : When → Bool
-names_day NotDigits = false
-names_day NoSuch = false
-names_day (At n) = true
+names_day (Err NotDigits) = false
+names_day (Err NoSuch) = false
+names_day (Ok n) = true
 
 -- the place of a sale: behind A0 and L0, under edition 2
 abbrev in_batch : Running

@@ -1,11 +1,9 @@
 -- HIDDEN DIGITS REACH NOTHING: "Two files are compared in demand 3 byte for byte outside the hidden digits."
-use Rattle.std.specs.Prelude.{ℕ, ◌+◌, ◌-◌, ◌<◌, ◌≡◌, List, [], ◌∷◌, Bool, false, cond, ◌&&◌, length, get_or, leb}
+use Rattle.std.specs.Prelude.{ℕ, ◌+◌, ◌-◌, ◌<◌, ◌≡◌, List, [], ◌∷◌, Bool, false, cond, ◌&&◌, length, get_or, leb, None, Option, Some}
 use Rattle.text.specs.Alphabet.{digit}
 use Rattle.pan.specs.HiddenPlaces.{hidden_place}
 use Rattle.pan.specs.AgreeOutside.{AgreeOutside}
 use Rattle.lines.specs.Lines.{cut, ends_in_cr, without_last}
-use Rattle.card_record.specs.declared.card_part.CardPart.{CardPart}
-use Rattle.card_record.specs.declared.card_part.CardPart.TheVariants.{From, Nowhere}
 use Rattle.card_record.specs.CardPart.{card_part, card_from}
 use Rattle.card_mask.specs.Masked.{masked_file}
 use Rattle.demands.specs.ToldAlike.{ToldAlike}
@@ -13,9 +11,9 @@ use Rattle.demands.specs.ToldAlike.{ToldAlike}
 -- a place of a record, from 0, is hidden where it is a hidden place of the card that begins at k;
 -- "It counts only in a record of kind CV, 199 wide, with a well-formed card field", and "now include the AJ card", in one 193 wide (a card that is not well formed, as
 -- one of blanks, has no hidden place)
-unfoldable pub hidden_at : CardPart → List ℕ → ℕ → Bool
-hidden_at Nowhere r i = false
-hidden_at (From k) r i = leb k i && hidden_place (card_from k r) (i - k)
+unfoldable pub hidden_at : (Option ℕ) → List ℕ → ℕ → Bool
+hidden_at None r i = false
+hidden_at (Some k) r i = leb k i && hidden_place (card_from k r) (i - k)
 
 abbrev pub hidden_in_record : List ℕ → ℕ → Bool
 hidden_in_record r i = hidden_at (card_part r) r i

@@ -5,9 +5,8 @@ use Rattle.refusal.specs.declared.Cause.TheVariants.{BytesAfterTheEnd}
 use Rattle.refusal.specs.declared.Refusal.{Refusal}
 use Rattle.chunks.specs.Chunks.{joined_chunks}
 use Rattle.chunks.specs.Waiting.{waiting_in}
-use Rattle.card_run.specs.declared.answer.CardAnswer.{CardAnswer}
 use Rattle.card_run.specs.Running.{next_number}
-use Rattle.card_run.specs.Answer.{going_on_row, refused_row, card_file_row}
+use Rattle.card_run.specs.Answer.{going_on_row, refused_row, card_file_row, CardAnswer}
 use Rattle.card_file.specs.CardFile.{check_of}
 use Rattle.card_stream.specs.declared.Stream.{Stream as CardStream}
 use Rattle.card_stream.specs.Stream as card
@@ -18,10 +17,10 @@ use Rattle.adjustment_rows.specs.InChunks.{Tabled, only_header, tabled_over}
 use Rattle.payroll_run.specs.State.{refusal_at}
 use Rattle.payroll_file.specs.Answer as paper
 use Rattle.payroll_file.specs.PayrollFile.{check_of as payroll_check_of}
-use Rattle.payroll_stream.specs.declared.Progress.{Progress}
 use Rattle.payroll_stream.specs.declared.Stream.{Stream as PayrollStream}
 use Rattle.payroll_stream.specs.Stream as payroll
 use Rattle.demands.specs.Feeding.{after_the_end}
+use Rattle.payroll_stream.specs.Stream.{PayrollProgress}
 
 -- a card file and a payroll file of which these chunks have come
 abbrev pub card_taken : ℕ → List (List ℕ) → CardStream
@@ -34,7 +33,7 @@ payroll_taken chunks = foldl payroll.taken_of payroll.open_of chunks
 abbrev pub card_in_chunks : ℕ → List (List ℕ) → CardAnswer
 card_in_chunks edition chunks = card.answer_of (card.ended_of (card_taken edition chunks))
 
-abbrev pub payroll_in_chunks : List (List ℕ) → Progress
+abbrev pub payroll_in_chunks : List (List ℕ) → PayrollProgress
 payroll_in_chunks chunks = payroll.answer_of (payroll.ended_of (payroll_taken chunks))
 
 abbrev pub copied_in_chunks : List (List ℕ) → Copied

@@ -4,7 +4,6 @@ use mathlib.Core.List.{List, ◌∷◌, ◌++◌, foldl}
 use Rattle.lines.specs.Lines.{no_lf, all_no_lf, joined}
 use Rattle.chunks.specs.Chunks.{joined_chunks}
 use Rattle.card_run.specs.declared.running.Running.{Running}
-use Rattle.card_run.specs.declared.answer.CardAnswer.{CardAnswer}
 use Rattle.card_run.specs.Running.{open_of}
 use Rattle.card_run.specs.Answer as CardFile
 use Rattle.card_file.specs.Feeding.{fed_all}
@@ -12,7 +11,6 @@ use Rattle.card_file.specs.CardFile.{check_of}
 use Rattle.card_stream.specs.declared.Stream.{Stream as CardStream}
 use Rattle.card_stream.specs.Stream as CardStream
 use Rattle.payroll_file.specs.PayrollFile.{check_of as payroll_check_of}
-use Rattle.payroll_stream.specs.declared.Progress.{Progress}
 use Rattle.payroll_stream.specs.declared.Stream.{Stream as PayrollStream}
 use Rattle.payroll_stream.specs.declared.feeding.Feeding.{Feeding}
 use Rattle.payroll_stream.specs.Stream as PayrollStream
@@ -41,6 +39,8 @@ use Rattle.state_numbers.specs.Calls.{
   payroll_ended_by,
 }
 use Rattle.demands.specs.InChunks.{card_taken, payroll_taken}
+use Rattle.card_run.specs.Answer.{CardAnswer}
+use Rattle.payroll_stream.specs.Stream.{PayrollProgress}
 
 -- the row that a caller gets of each kind of state, from what it keeps
 abbrev pub card_row_of : List ℕ → List ℕ
@@ -73,7 +73,7 @@ pub record NotOpened : Type 0 where
 -- answers with the same numbers are the same
 pub record RowsFixAnswers : Type 0 where
   pub card : (a b : CardAnswer) → card_numbers a ≡ card_numbers b → a ≡ b
-  pub payroll : (p q : Progress) → progress_numbers p ≡ progress_numbers q → p ≡ q
+  pub payroll : (p q : PayrollProgress) → progress_numbers p ≡ progress_numbers q → p ≡ q
 
 pub record KeptAsNumbers : Type 0 where
   -- nothing of a state is lost in what is kept of it

@@ -1,16 +1,15 @@
 -- DEMAND 1 FOR WHAT IS LENT: a refused answer leaves all of it as it was, and its numbers are zero.
 use Rattle.std.specs.Prelude.{ℕ, ◌≡◌, List}
 use Rattle.refusal.specs.Row.{RefusalRow, no_refusal}
-use Rattle.card_run.specs.declared.answer.CardAnswer.{CardAnswer}
 use Rattle.card_run.specs.Running.{no_numbers}
-use Rattle.card_run.specs.Answer.{card_file_row}
+use Rattle.card_run.specs.Answer.{card_file_row, CardAnswer}
 use Rattle.card_mask.specs.Mask.{Masks}
 use Rattle.card_sheet.specs.SheetOf.{SheetOf}
 use Rattle.sheet_numbers.specs.declared.sheet.Sheet.{Sheet}
-use Rattle.day_sheet.specs.declared.writer.SheetWritten.{SheetWritten}
 use Rattle.day_sheet.specs.Writing.{Writes}
 use Rattle.day_sheet.specs.Conversion.{Converts}
 use Rattle.day_sheet.specs.Answer.{no_sheet, written_row}
+use Rattle.day_sheet.specs.Writing.{SheetWritten}
 
 -- "All counts and totals in a refused answer are zero, and lent output is unchanged", whatever that means of what was lent
 pub record LeftAlone (unchanged zero : Type 0) : Type 0 where

@@ -1,8 +1,7 @@
 -- MASK TWICE, LOSE NOTHING: "Hubs mask what we have masked already." Of sales' and of adjustments' cards alike.
 use Rattle.std.specs.Prelude.{ℕ, ◌≤◌, ◌≡◌, ◌↔◌, List, ◌++◌, true, length, take, drop}
 use Rattle.pan.specs.AgreeOutside.{AgreeOutside}
-use Rattle.card_run.specs.declared.answer.CardAnswer.{CardAnswer}
-use Rattle.card_run.specs.Answer.{card_file_row}
+use Rattle.card_run.specs.Answer.{card_file_row, CardAnswer}
 use Rattle.card_mask.specs.Masked.{masked_record, masked_file}
 use Rattle.card_mask.specs.Mask.{Masks}
 use Rattle.demands.specs.HiddenDigits.{hidden_in}

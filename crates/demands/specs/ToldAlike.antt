@@ -2,13 +2,12 @@
 -- only in hidden digits (HiddenDigits), and a file and its masked form (MaskTwice). Of the programs `card`, `mask`, `sheet` and `adjustments` the list has what they print of a
 -- card file: the text of its outcome, and on which descriptor (`printed`), and its line among many (`listed`). Which bytes a system call moved, and the mistakes that its answer gives, are the system's affair.
 use Rattle.std.specs.Prelude.{ℕ, ◌≡◌, List, [], ◌∷◌, ◌++◌, length, take}
-use Rattle.files.specs.declared.reading.Got.{Got}
+use Rattle.files.specs.Loaded.{Got}
 use Rattle.chunks.specs.Chunks.{joined_chunks}
 use Rattle.card_record.specs.Reading.{reading_of}
 use Rattle.card_run.specs.declared.running.Running.{Running}
-use Rattle.card_run.specs.declared.answer.CardAnswer.{CardAnswer}
 use Rattle.card_run.specs.Running.{open_of, closed_of}
-use Rattle.card_run.specs.Answer.{card_file_row}
+use Rattle.card_run.specs.Answer.{card_file_row, CardAnswer}
 use Rattle.card_file.specs.CardFile.{check_of}
 use Rattle.card_file.specs.Feeding.{fed_all}
 use Rattle.card_stream.specs.Stream as card

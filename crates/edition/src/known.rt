@@ -19,9 +19,10 @@ fn is_known(edition: u64) -> bool
 }
 
 // Why no file is read under this edition: 1, then 22, or nothing.
-pub fn fault_of(edition: u64) -> Fault
+#[tactic(auto, unfolding(refusal::specs::Rules::first_broken))]
+pub fn fault_of(edition: u64) -> Result<(), Fault>
     ensures { result ≡ edition_fault edition }
 {
-    let unknown = refusal::rule(Cause::EditionUnknown, 0, is_known(edition));
-    unknown.earlier(refusal::rule(Cause::EditionRetired, 0, !is_retired(edition)))
+    refusal::rule(Cause::EditionUnknown, 0, is_known(edition))?;
+    refusal::rule(Cause::EditionRetired, 0, !is_retired(edition))
 }

@@ -2,26 +2,15 @@
 // at OUT, and whether anything else was left in the folder. The cases come as steps.
 #![tactic(auto)]
 
-use cases::{cursor, file};
+use cases::layout::PART;
 
 mod compare;
 mod folder;
-mod no_file;
+mod opened;
 mod out;
 mod question;
 mod step;
 
-// Runs all steps.
-fn run_all(rt: &HostRuntime, steps: &[u8]) {
-    let mut at = 0;
-    while at < steps.len() {
-        at = step::run_at(rt, steps, at);
-    }
-    cursor::print_end(steps, at);
-}
-
 fn main(rt: HostRuntime) {
-    let mut buffer = file::room();
-    let size = file::load(&rt, b"own.cases", &mut buffer);
-    run_all(&rt, &buffer[..size]);
+    PART.print_file(&rt, b"own.cases", |_, step| step::run_step(&rt, step));
 }

@@ -1,12 +1,10 @@
 // The questions to the programs' work, and the texts that it says.
-use crate::no_file::NoFile;
+use crate::opened::Opened;
 use card_copy::output::Output;
 use card_program::outcome::Outcome;
 use card_program::verdict::Lines;
 use cases::print;
-use files::opening;
 use payroll_program::check;
-use payroll_program::outcome::PayrollOutcome;
 use sheet_program::read::SheetOutcome;
 use sheet_program::{convert, read};
 
@@ -31,32 +29,38 @@ const ROWS: u64 = b'J' as u64;
 // Room for every text.
 const ROOM: usize = 448;
 
-fn print_first(text: &[u8], size: usize) {
-    if size <= text.len() {
-        print::text(&text[0..size]);
+// Prints a text that is put in front of a room, whether it goes to standard output or to standard error.
+fn print_text<F: FnOnce(&mut [u8]) -> usize>(put: F)
+    requires { F.IsAlwaysCallable put }
+{
+    let mut room = [0u8; ROOM];
+    let size = put(&mut room);
+    if size <= ROOM {
+        print::text(&room[..size]);
     }
 }
 
-// The text of an outcome of a card file, whether it goes to standard output or to standard error.
+// The text of an outcome of a card file.
 fn print_outcome(lines: Lines, outcome: Outcome) {
-    let mut room = [0u8; ROOM];
-    let size = card_program::verdict::put_outcome(lines, outcome, &mut room, 0);
-    print_first(&room, size);
+    print_text(|room| card_program::verdict::put_outcome(lines, outcome, room, 0));
 }
 
 // The same of a day sheet.
 fn print_sheet(outcome: SheetOutcome) {
-    let mut room = [0u8; ROOM];
-    let size = sheet_program::verdict::put_outcome(outcome, &mut room, 0);
-    print_first(&room, size);
+    print_text(|room| sheet_program::verdict::put_outcome(outcome, room, 0));
 }
 
-// Checks a card file from a reader: of a file that cannot be opened, one that is not open.
+// Checks a card file from a reader.
 fn print_card(rt: &HostRuntime, lines: Lines, edition: &[u8], file: &[u8]) {
-    match opening::open(rt, file) {
-        Ok(mut opened) => print_outcome(lines, card_program::work::work(edition, &mut opened)),
-        Err(_) => print_outcome(lines, card_program::work::work(edition, &mut NoFile)),
-    }
+    let mut reader = Opened::at(rt, file);
+    print_outcome(lines, card_program::work::work(edition, &mut reader));
+}
+
+// Checks a payroll file from a reader.
+fn print_payroll(rt: &HostRuntime, file: &[u8]) {
+    let mut reader = Opened::at(rt, file);
+    let outcome = check::check(&mut reader);
+    print_text(|room| payroll_program::verdict::put_outcome(outcome, room, 0));
 }
 
 // Makes an output of a card file.
@@ -69,21 +73,6 @@ fn print_copy(
     out: &[u8],
 ) {
     print_outcome(lines, card_copy::work::work(rt, output, edition, file, out));
-}
-
-// The text of an outcome of a payroll file.
-fn print_payroll_outcome(outcome: PayrollOutcome) {
-    let mut room = [0u8; ROOM];
-    let size = payroll_program::verdict::put_outcome(outcome, &mut room, 0);
-    print_first(&room, size);
-}
-
-// Checks a payroll file from a reader.
-fn print_payroll(rt: &HostRuntime, file: &[u8]) {
-    match opening::open(rt, file) {
-        Ok(mut opened) => print_payroll_outcome(check::check(&mut opened)),
-        Err(_) => print_payroll_outcome(check::check(&mut NoFile)),
-    }
 }
 
 // Asks the question of a letter, and prints what its program says.

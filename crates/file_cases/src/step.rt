@@ -1,7 +1,4 @@
 // A step: a letter that says what is to be done, and four texts, each behind its length: what is printed first, EDITION, FILE and OUT.
-ghost use Rattle.std.specs.Prelude.{◌+◌, ◌≤◌, min, length};
-
-use crate::out::Shown;
 use crate::{compare, folder, out, question};
 use cases::cursor::LENGTH_BYTES;
 use cases::{cursor, print};
@@ -32,9 +29,9 @@ fn run(rt: &HostRuntime, letter: u64, edition: &[u8], file: &[u8], out: &[u8]) {
         FOLDER => folder::make(rt, out),
         PUT => folder::put(rt, file, out),
         LEAVE => folder::leave(rt, out),
-        LINES => out::show(rt, Shown::Lines, out),
-        HEX => out::show(rt, Shown::Hex, out),
-        HASH => out::show(rt, Shown::Hash, out),
+        LINES => out::show(rt, out, print::text),
+        HEX => out::show(rt, out, out::print_hex),
+        HASH => out::show(rt, out, out::print_hash),
         COMPARE => compare::print(rt, file, out),
         _ => question::print(rt, letter, edition, file, out),
     }
@@ -55,18 +52,9 @@ fn run_behind(rt: &HostRuntime, letter: u64, step: &[u8], at: usize) {
 }
 
 // Runs a step.
-fn run_step(rt: &HostRuntime, step: &[u8]) {
+pub fn run_step(rt: &HostRuntime, step: &[u8]) {
     let letter = cursor::number_at(step, 0, LETTER_BYTES);
     let title = cursor::number_at(step, letter.behind, LENGTH_BYTES);
     print::text(title.part(step));
     run_behind(rt, letter.value, step, title.behind_part());
-}
-
-// Runs the step at a place, and answers the place behind it.
-pub fn run_at(rt: &HostRuntime, steps: &[u8], at: usize) -> usize
-    ensures { min (at + 1) (length steps.now) ≤ result }
-{
-    let length = cursor::number_at(steps, at, LENGTH_BYTES);
-    run_step(rt, length.part(steps));
-    length.behind_part()
 }

@@ -10,7 +10,7 @@ use Rattle.lines.proofs.Cuts.{first_piece}
 use Rattle.wording.specs.Shown.{shown_as}
 use Rattle.wording.specs.Put.{Puts}
 use Rattle.wording.proofs.Shown.{stays_one_line}
-use Rattle.wording.proofs.Putting.{reworded, whole, counted}
+use Rattle.wording.proofs.Putting.{reworded, whole}
 use Rattle.file_list.specs.Line.{file_line}
 
 -- words and name hold no LF as they are shown
@@ -40,6 +40,3 @@ module _ {words lent b after : List ℕ} {e : ℕ} (name : List ℕ) (same : len
 
   pub line_whole : take e after ≡ file_line words name
   line_whole = whole short put
-
-  pub line_counted : e ≡ length (take e after)
-  line_counted = counted short put

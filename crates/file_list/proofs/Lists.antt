@@ -32,8 +32,3 @@ module _ {A : Type 0} (said : A → Said) (Allowed : A → Type 0) (first count 
         within = omega (arith, w.begun);
         tallied = subst (λ (n : ℕ). Tallied said Allowed n next) more (one_tallied said Allowed outcome w.tallied a (e ∙ ap (one_file_more tally) s));
       }
-
-  pub all_reached : {number : ℕ} {tally : Tally} → count ≤ number → Reached said Allowed first count number tally → Tallied said Allowed (count - first) tally
-  all_reached {number} {tally} h w =
-      let all : number - first ≡ count - first = omega (arith, w.begun, w.within) in
-      subst (λ (n : ℕ). Tallied said Allowed n tally) all w.tallied

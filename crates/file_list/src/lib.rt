@@ -2,5 +2,6 @@
 #![tactic(auto)]
 
 pub mod line;
+pub mod list;
 pub mod listed;
 pub mod tally;

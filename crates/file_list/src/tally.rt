@@ -37,28 +37,26 @@ impl Tally {
     }
 
     // One file more, each number at most the largest of 64 bits.
+    #[tactic(auto, unfolding(crate::specs::Tally::one_file_more))]
     pub fn with(self, said: Said) -> Tally
         ensures { result ≡ one_file_more self said }
     {
-        let files = sum::added(self.files, 1);
+        let counted = Tally {
+            files: sum::added(self.files, 1),
+            ..self
+        };
         match said {
             Said::Accepted => Tally {
-                files,
                 accepted: sum::added(self.accepted, 1),
-                refused: self.refused,
-                unreadable: self.unreadable,
+                ..counted
             },
             Said::Refused => Tally {
-                files,
-                accepted: self.accepted,
                 refused: sum::added(self.refused, 1),
-                unreadable: self.unreadable,
+                ..counted
             },
             Said::Unreadable => Tally {
-                files,
-                accepted: self.accepted,
-                refused: self.refused,
                 unreadable: sum::added(self.unreadable, 1),
+                ..counted
             },
         }
     }

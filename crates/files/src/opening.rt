@@ -8,11 +8,6 @@ pub const NO_TEXT: u64 = 84;
 
 // Opens a file for reading, or gives the number of the system's error.
 pub fn open(rt: &HostRuntime, name: &[u8]) -> Result<File, u64> {
-    let Ok(text) = str::from_utf8(name) else {
-        return Err(NO_TEXT);
-    };
-    match File::open(rt, text) {
-        Ok(file) => Ok(file),
-        Err(error) => Err(error::number(&error)),
-    }
+    let text = str::from_utf8(name).map_err(|_| NO_TEXT)?;
+    File::open(rt, text).map_err(|error| error::number(&error))
 }

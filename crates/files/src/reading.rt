@@ -6,43 +6,28 @@ ghost use Rattle.files.specs.Reading.{got_of};
 use crate::error;
 use std::io::Read;
 
-// What one read means: an error, which has its number, is not the end.
-#[derive(Clone, Copy)]
-pub enum Got {
-    Bytes(usize),
-    End,
-    Failed(u64),
-}
+// What one read means: so many bytes, or the end; an error, which has its number, is not the end.
+pub type Got = Result<Option<usize>, u64>;
 
-// What reading a whole file answers.
-#[derive(Clone, Copy)]
-pub enum Loaded {
-    // So many bytes, at the start of the buffer.
-    Bytes(usize),
-    // It cannot be read: the error's number.
-    Failed(u64),
-    // It fills the buffer, and may go on.
-    TooLong,
-}
+// What reading a whole file answers: so many bytes, at the start of the buffer; or that it fills the buffer, and may go on. Where it cannot be read, the
+// error's number.
+pub type Loaded = Result<Option<usize>, u64>;
 
 // More reads than any file needs, so that a loop of reads is counted.
 pub const MOST_READS: u64 = 1_152_921_504_606_846_976;
 
 // The meaning of what the system answered to a read into `free`, with the error that it left. A read for which there is no room says nothing of the end.
+// Answer and error stay numbers, which `got_of` of `answers` holds of every one.
 pub fn got_of(answer: isize, error: u64, free: &[u8]) -> Got
     ensures { result ≡ got_of answer error (length free.now) }
 {
-    if answer < 0 {
-        return Got::Failed(error);
+    if answer < 0 || free.is_empty() {
+        return Err(error);
     }
-    if free.len() == 0 {
-        return Got::Failed(error);
+    match io::count(answer, free) {
+        0 => Ok(None),
+        n => Ok(Some(n)),
     }
-    let n = io::count(answer, free);
-    if n == 0 {
-        return Got::End;
-    }
-    Got::Bytes(n)
 }
 
 // One read.
@@ -69,11 +54,10 @@ pub fn read_all<R: Read>(reader: &mut R, buffer: &mut [u8]) -> Loaded
 {
     let mut done = 0;
     while done < buffer.len() {
-        match read_more(reader, buffer, done) {
-            Got::Failed(error) => return Loaded::Failed(error),
-            Got::End => return Loaded::Bytes(done),
-            Got::Bytes(n) => done += n,
+        match read_more(reader, buffer, done)? {
+            None => return Ok(Some(done)),
+            Some(n) => done += n,
         }
     }
-    Loaded::TooLong
+    Ok(None)
 }

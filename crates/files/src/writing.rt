@@ -1,29 +1,47 @@
 // Writing to standard output and standard error, and to files.
+ghost use Rattle.std.specs.Prelude.{◌≡◌};
+ghost use Rattle.files.specs.Standard.{stream_of};
+
 use crate::error;
 use std::io::Write;
 
-// The descriptors of the standard streams that are written to.
-pub const STDOUT: i32 = 1;
-
-pub const STDERR: i32 = 2;
+// The standard streams that are written to.
+#[derive(Clone, Copy)]
+pub enum Standard {
+    Output,
+    Error,
+}
 
 // Writes all of some bytes, or gives the number of the error of the first write that failed: 0 for one that took nothing.
 pub fn write_all<W: Write>(writer: &mut W, bytes: &[u8]) -> Result<(), u64> {
-    let mut done = 0;
-    while done < bytes.len() {
-        match writer.write(&bytes[done..]) {
+    let mut rest = bytes;
+    while !rest.is_empty() {
+        match writer.write(rest) {
             Err(error) => return Err(error::number(&error)),
             Ok(0) => return Err(0),
-            Ok(size) => done += size,
+            Ok(size) => rest = &rest[size..],
         }
     }
     Ok(())
 }
 
-// Writes to standard error, or to standard output where that is not asked for.
-pub fn write_to(rt: &HostRuntime, descriptor: i32, bytes: &[u8]) -> Result<(), u64> {
-    if descriptor == STDERR {
-        return write_all(&mut rt.stderr(), bytes);
+// A descriptor says which: 2 is standard error, and any other number standard output.
+impl From<i32> for Standard {
+    ghost from_gives = { λ descriptor standard. standard ≡ stream_of descriptor };
+
+    fn from(descriptor: i32) -> Standard {
+        if descriptor == 2 {
+            Standard::Error
+        } else {
+            Standard::Output
+        }
     }
-    write_all(&mut rt.stdout(), bytes)
+}
+
+// Writes to one of the standard streams, which may be told by its descriptor.
+pub fn write_to<S: Into<Standard>>(rt: &HostRuntime, stream: S, bytes: &[u8]) -> Result<(), u64> {
+    match stream.into() {
+        Standard::Output => write_all(&mut rt.stdout(), bytes),
+        Standard::Error => write_all(&mut rt.stderr(), bytes),
+    }
 }

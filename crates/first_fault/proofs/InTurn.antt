@@ -6,8 +6,8 @@ use mathlib.Core.List.{List, [], ◌∷◌, ◌++◌, map, map-append, append-ni
 use mathlib.Core.Bool.{true}
 use native.Mathlib.Omega.{arith}
 use Rattle.refusal.specs.declared.Cause.{Cause}
-use Rattle.refusal.specs.declared.Fault.{Fault}
-use Rattle.refusal.specs.declared.Fault.TheVariants.{Nothing, At}
+use Rattle.std.specs.Prelude.{Ok, Err}
+use Rattle.refusal.specs.Fault.{Judged, at}
 use Rattle.refusal.specs.Rules.{first_broken, all_hold, FirstBroken}
 use Rattle.refusal.proofs.Rules.{all_hold_lem, is_first}
 use Rattle.text.proofs.Alphabets.{both, both_left, both_right}
@@ -32,7 +32,7 @@ module _ (rules : RulesBehind) where
 
   -- the first place breaks a rule
   at_once : (before ps : List (List ℕ)) (left : List ℕ) (here : Next) (later : List Next) (cause : Cause) (column : ℕ) →
-      map piece ps ++ (rest left ∷ []) ≡ here ∷ later → first_broken (rules before here) ≡ At cause column → Verdict before ps left
+      map piece ps ++ (rest left ∷ []) ≡ here ∷ later → first_broken (rules before here) ≡ at cause column → Verdict before ps left
   unfolding pieces_hold
   at_once before ps left here later cause column split f =
       breaks cause column
@@ -67,15 +67,15 @@ module _ (rules : RulesBehind) where
   unfolding pieces_hold
   verdict before [] left = by (first_broken (rules before (rest left))) refl
     where
-      by : (fault : Fault) → first_broken (rules before (rest left)) ≡ fault → Verdict before [] left
-      by Nothing f =
+      by : (fault : Judged) → first_broken (rules before (rest left)) ≡ fault → Verdict before [] left
+      by (Ok none) f =
           keeps refl (subst (λ rs. all_hold (rules rs (rest left)) ≡ true) (sym (append-nil before)) (all_hold_lem (rules before (rest left)) f))
-      by (At cause column) f = at_once before [] left (rest left) [] cause column refl f
+      by (Err fault) f = at_once before [] left (rest left) [] fault.cause fault.column refl f
   verdict before (p ∷ ps) left = by (first_broken (rules before (piece p))) refl (verdict (before ++ (without_last p ∷ [])) ps left)
     where
-      by : (fault : Fault) → first_broken (rules before (piece p)) ≡ fault → Verdict (before ++ (without_last p ∷ [])) ps left → Verdict before (p ∷ ps) left
-      by Nothing f later = behind before p ps left (all_hold_lem (rules before (piece p)) f) later
-      by (At cause column) f later = at_once before (p ∷ ps) left (piece p) (map piece ps ++ (rest left ∷ [])) cause column refl f
+      by : (fault : Judged) → first_broken (rules before (piece p)) ≡ fault → Verdict (before ++ (without_last p ∷ [])) ps left → Verdict before (p ∷ ps) left
+      by (Ok none) f later = behind before p ps left (all_hold_lem (rules before (piece p)) f) later
+      by (Err fault) f later = at_once before (p ∷ ps) left (piece p) (map piece ps ++ (rest left ∷ [])) fault.cause fault.column refl f
 
   -- THE THEOREM of a file: it has no fault, or a first one
   pub none_or_first : (file : List ℕ) → NoFault rules file ⊎ ((cause : Cause) × (column : ℕ) × FirstFault rules file cause column)

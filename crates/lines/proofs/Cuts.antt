@@ -8,7 +8,7 @@ use lib.ListN.{length, take, drop, length-drop}
 use lib.Seq.{drop-drop}
 use lib.Dec.{eqb}
 use borrow.Author.Tests.{eqb-true}
-use Rattle.lines.specs.declared.Found.TheVariants.{At, Nowhere}
+use Rattle.std.specs.Prelude.{Some, None}
 use Rattle.lines.specs.Lines.{Lines, lf, in_front, cut, rejoined, joined, no_lf, all_no_lf, IsCut, with_cr, next_lf}
 use Rattle.lines.proofs.Search.{split, none}
 
@@ -42,7 +42,7 @@ only_rest (b ∷ s) e =
     rw (n.0, only_rest s n.1)
 
 -- where the search finds an LF, the bytes before it are the first piece, and the cut goes on behind it
-pub cut_at : (at : ℕ) (s : List ℕ) (e : ℕ) → next_lf at s ≡ At e →
+pub cut_at : (at : ℕ) (s : List ℕ) (e : ℕ) → next_lf at s ≡ Some e →
     cut (drop at s) ≡ pieces_then (take (e - at) (drop at s) ∷ []) (cut (drop (e + 1) s))
 cut_at at s e q =
     let w = split at (drop at s) e q in
@@ -52,14 +52,14 @@ cut_at at s e q =
     ap₂ (λ (n : ℕ) (t : List ℕ). pieces_then (take n (drop at s) ∷ []) (cut t)) n (drop-drop (suc w.k) at s ∙ ap (λ (n : ℕ). drop n s) m)
 
 -- the LF that it finds stands between the place and the end
-pub at_inside : (at : ℕ) (s : List ℕ) (e : ℕ) → next_lf at s ≡ At e → (at ≤ e) × (e < length s)
+pub at_inside : (at : ℕ) (s : List ℕ) (e : ℕ) → next_lf at s ≡ Some e → (at ≤ e) × (e < length s)
 at_inside at s e q =
     let w = split at (drop at s) e q in
     let l = length-drop at s in
     (omega arith, omega arith)
 
 -- where it finds none, there is no piece
-pub cut_nowhere : (at : ℕ) (s : List ℕ) → next_lf at s ≡ Nowhere → cut (drop at s) ≡ record { pieces = []; rest = drop at s }
+pub cut_nowhere : (at : ℕ) (s : List ℕ) → next_lf at s ≡ None → cut (drop at s) ≡ record { pieces = []; rest = drop at s }
 cut_nowhere at s q = only_rest (drop at s) (none at (drop at s) q)
 
 -- pieces without LF, each followed by LF, are cut into themselves

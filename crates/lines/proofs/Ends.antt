@@ -1,37 +1,28 @@
 -- Laws of a piece's last byte: where it stands, and that a record with its CR comes apart again.
-use Prim.Native.Nat.{ℕ, suc, ◌-◌, ◌<◌}
-use mathlib.Core.Path.{◌≡◌, refl, ◌∙◌, ap}
+use Prim.Native.Nat.{ℕ, suc, ◌-◌}
+use mathlib.Core.Path.{◌≡◌, refl, sym, ◌∙◌, ap}
 use mathlib.Core.List.{List, [], ◌∷◌, ◌++◌}
-use mathlib.Core.Bool.{true, false, false≢true}
+use mathlib.Core.Bool.{true, false≢true}
 use native.Mathlib.Omega.{arith}
-use lib.ListN.{length, get_or, take}
+use lib.ListN.{length, take}
 use lib.Dec.{eqb}
 use borrow.Author.Tests.{eqb-true}
+use Rattle.std.specs.Prelude.{Some, nat_eq, slice_get}
+use Rattle.std.specs.Option.{option_eq}
 use Rattle.lines.specs.Lines.{cr, with_cr, ends_in_cr, without_last}
 
 one_less : (n : ℕ) → n ≡ suc n - 1
 one_less n = omega arith
 
--- a piece of one byte or more: its last byte is the one to test
-pub last_byte : (s : List ℕ) → 0 < length s → ends_in_cr s ≡ eqb (get_or s (length s - 1) 0) cr
+-- the last byte, where there is one, is the one to test
+pub last_byte : (s : List ℕ) → option_eq nat_eq (slice_get s (length s - 1)) (Some cr) ≡ ends_in_cr s
 unfolding ends_in_cr
-last_byte [] h = absurd (omega arith)
-last_byte (b ∷ s) h = ends b s ∙ ap (λ (n : ℕ). eqb (get_or (b ∷ s) n 0) cr) (one_less (length s))
+last_byte [] = refl
+last_byte (b ∷ s) = ap (λ (n : ℕ). option_eq nat_eq (slice_get (b ∷ s) n) (Some cr)) (sym (one_less (length s))) ∙ ends b s
   where
-    ends : (b : ℕ) (s : List ℕ) → ends_in_cr (b ∷ s) ≡ eqb (get_or (b ∷ s) (length s) 0) cr
+    ends : (b : ℕ) (s : List ℕ) → option_eq nat_eq (slice_get (b ∷ s) (length s)) (Some cr) ≡ ends_in_cr (b ∷ s)
     ends b [] = refl
     ends b (c ∷ s) = ends c s
-
--- no byte: it ends in none, and nothing stands before it
-pub no_byte : (s : List ℕ) → length s ≡ 0 → ends_in_cr s ≡ false
-unfolding ends_in_cr
-no_byte [] h = refl
-no_byte (b ∷ s) h = absurd (omega arith)
-
-pub nothing_before : (s : List ℕ) → length s ≡ 0 → without_last s ≡ []
-unfolding without_last
-nothing_before [] h = refl
-nothing_before (b ∷ s) h = absurd (omega arith)
 
 -- all bytes but one
 pub all_but_one : (s : List ℕ) → without_last s ≡ take (length s - 1) s

@@ -5,7 +5,7 @@ use mathlib.Core.List.{List, [], ◌∷◌, ◌++◌, append_assoc}
 use native.Mathlib.Omega.{arith}
 use lib.ListN.{length, take, drop, length-append, length-drop, drop_of_length-le}
 use lib.Seq.{length-take-le}
-use Rattle.lines.specs.declared.Found.TheVariants.{At, Nowhere}
+use Rattle.std.specs.Prelude.{Some, None}
 use Rattle.lines.specs.Lines.{Lines, lf, cut, rejoined, finished_in, next_lf}
 use Rattle.lines.proofs.Cuts.{cut_is_cut, cut_at, at_inside, cut_nowhere}
 
@@ -22,7 +22,7 @@ finished_within s =
     omega (arith, simp length-append at (ap length both))
 
 -- those of what is left from a place on, where the search finds an LF
-pub first_finished : (at : ℕ) (s : List ℕ) (e : ℕ) → next_lf at s ≡ At e → at + finished_in (drop at s) ≡ (e + 1) + finished_in (drop (e + 1) s)
+pub first_finished : (at : ℕ) (s : List ℕ) (e : ℕ) → next_lf at s ≡ Some e → at + finished_in (drop at s) ≡ (e + 1) + finished_in (drop (e + 1) s)
 unfolding rejoined
 first_finished at s e q =
     let i = at_inside at s e q in
@@ -34,7 +34,7 @@ first_finished at s e q =
     omega arith
 
 -- and where nothing of it is finished: there is no LF, or no byte
-pub none_finished : (at : ℕ) (s : List ℕ) → next_lf at s ≡ Nowhere → finished_in (drop at s) ≡ 0
+pub none_finished : (at : ℕ) (s : List ℕ) → next_lf at s ≡ None → finished_in (drop at s) ≡ 0
 unfolding rejoined
 none_finished at s q = rw (cut_nowhere at s q)
 

@@ -1,5 +1,5 @@
 pub mod Search
 pub mod Cuts
+pub mod Pieces
 pub mod Ends
-mod Clear
 pub mod Finished

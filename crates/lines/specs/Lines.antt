@@ -1,7 +1,5 @@
 -- "A record is the bytes up to the next CR LF": a file's bytes, cut at each LF.
-use Rattle.std.specs.Prelude.{ℕ, suc, ◌≡◌, List, [], ◌∷◌, ◌++◌, Bool, true, false, cond, ◌&&◌, length, drop, eqb}
-use Rattle.lines.specs.declared.Found.{Found}
-use Rattle.lines.specs.declared.Found.TheVariants.{At, Nowhere}
+use Rattle.std.specs.Prelude.{ℕ, suc, ◌≡◌, List, [], ◌∷◌, ◌++◌, Bool, true, false, cond, ◌&&◌, length, drop, eqb, Option, Some, None}
 
 -- CR and LF; "The line end is our choice"
 abbrev pub cr : ℕ
@@ -58,11 +56,11 @@ abbrev pub with_cr : List ℕ → List ℕ
 with_cr r = r ++ (cr ∷ [])
 
 -- the place of the next LF, counted on from i
-unfoldable pub lf_from : ℕ → List ℕ → Found
-lf_from i [] = Nowhere
-lf_from i (b ∷ s) = cond (eqb b lf) (At i) (lf_from (suc i) s)
+unfoldable pub lf_from : ℕ → List ℕ → Option ℕ
+lf_from i [] = None
+lf_from i (b ∷ s) = cond (eqb b lf) (Some i) (lf_from (suc i) s)
 
-abbrev pub next_lf : ℕ → List ℕ → Found
+abbrev pub next_lf : ℕ → List ℕ → Option ℕ
 next_lf from s = lf_from from (drop from s)
 
 -- whether a piece ends in CR

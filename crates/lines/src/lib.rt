@@ -1,84 +1,60 @@
 // The cut of a file's bytes into pieces at each LF.
 #![tactic(auto)]
 
-ghost use Rattle.std.specs.Prelude.{◌≡◌};
+ghost use Rattle.std.specs.Prelude.{◌≡◌, ℕ, List, MatchOption};
+ghost use mathlib.Core.List.{foldl};
+ghost use Rattle.lines.specs.Steps.{Means, NoPiece, FirstPiece};
 ghost use Rattle.text.specs.Part.{PartOf};
-ghost use Rattle.lines.specs.Lines.{no_lf, next_lf, ends_in_cr, without_last};
+ghost use Rattle.lines.specs.Lines.{next_lf, ends_in_cr, without_last, cut};
 
-#[derive(Clone, Copy)]
-pub enum Found {
-    At(usize),
-    Nowhere,
-}
-
-// How many bytes are looked at together. The lines of a sale and of a payroll record, 201 and 242 bytes, end right behind whole blocks of 40.
-const BLOCK: usize = 40;
-
-// Whether a block holds no LF. There is no way out before its end, so that the machine can look at many bytes at once.
-fn is_clear(block: &[u8]) -> bool
-    ensures { result ≡ no_lf block.now }
-{
-    let mut clear = true;
-    let mut i = 0;
-    while i < block.len() {
-        if block[i] == b'\n' {
-            clear = false;
-        }
-        i += 1;
-    }
-    clear
-}
-
-// A place behind blocks without an LF, from which the search goes on.
-fn behind_clear_blocks(bytes: &[u8], from: usize) -> usize
-    ensures { next_lf result bytes.now ≡ next_lf from bytes.now }
-{
-    if bytes.len() < BLOCK {
-        return from;
-    }
-    let last = bytes.len() - BLOCK;
-    let mut i = from;
-    while i <= last {
-        if !is_clear(&bytes[i..i + BLOCK]) {
-            return i;
-        }
-        i += BLOCK;
-    }
-    i
-}
+use memchr::memchr;
 
 // The next LF from a place on.
-pub fn next_lf(bytes: &[u8], from: usize) -> Found
+pub fn next_lf(bytes: &[u8], from: usize) -> Option<usize>
     ensures { result ≡ next_lf from bytes.now }
 {
-    let mut i = behind_clear_blocks(bytes, from);
-    while i < bytes.len() {
-        if bytes[i] == b'\n' {
-            return Found::At(i);
-        }
-        i += 1;
+    if bytes.len() < from {
+        return None;
     }
-    Found::Nowhere
+    let place = memchr(b'\n', &bytes[from..])?;
+    Some(from + place)
 }
 
 // Whether the last byte of a piece is a CR.
 pub fn ends_in_cr(piece: &[u8]) -> bool
     ensures { result ≡ ends_in_cr piece.now }
 {
-    let length = piece.len();
-    if length == 0 {
-        return false;
-    }
-    piece[length - 1] == b'\r'
+    piece.last().copied() == Some(b'\r')
 }
 
 // A piece without its last byte.
 pub fn without_last(piece: &[u8]) -> &[u8]
     ensures { PartOf piece.entry 0 (without_last piece.now) result }
 {
-    let length = piece.len();
-    if length == 0 {
-        return &piece[..0];
+    &piece[..piece.len().saturating_sub(1)]
+}
+
+// The first piece that an LF ends, and what stands behind that LF.
+pub fn first_piece(bytes: &[u8]) -> Option<(&[u8], &[u8])>
+    ensures { MatchOption result (NoPiece bytes.now) (λ p. FirstPiece bytes.now p.0.now p.1.now) }
+{
+    let end = next_lf(bytes, 0)?;
+    let piece = &bytes[..end];
+    let behind = &bytes[end + 1..];
+    Some((piece, behind))
+}
+
+// Takes the pieces that an LF ends, one after the other, and hands back what is left behind the last LF.
+pub fn take_pieces<S: Drop, F: Fn(S, &[u8]) -> S>(state: S, bytes: &[u8], step: F) -> (S, &[u8])
+    requires { F.IsAlwaysCallable step }
+    ensures taken { (meant : S → List ℕ → S) → Means (F.post step) meant → result.0 ≡ foldl meant state (cut bytes.now).pieces }
+    ensures left { result.1.now ≡ (cut bytes.now).rest }
+{
+    let mut next = state;
+    let mut rest = bytes;
+    while let Some((piece, behind)) = first_piece(rest) {
+        next = step(next, piece);
+        rest = behind;
     }
-    &piece[..length - 1]
+    (next, rest)
 }

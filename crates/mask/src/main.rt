@@ -3,30 +3,24 @@
 
 use card_copy::output::Output;
 use card_copy::work;
+use card_program::outcome::Outcome;
 use card_program::verdict;
 use card_program::verdict::Lines;
-use program::argument::Three;
+use program::argument;
 use program::mistake::{Mistake, Program};
-use program::{argument, mistake};
 
-fn main(rt: HostRuntime) {
-    if argument::count(&rt) != 4 {
-        mistake::tell(&rt, Mistake::Usage(Program::Mask));
-        return;
+// Saves the masked copy of the file that the second argument names in the one that the third does.
+fn save_copy(rt: &HostRuntime) -> Outcome {
+    if argument::count(rt) != 4 {
+        return Err(Mistake::Usage(Program::Mask));
     }
     let mut edition = argument::room();
     let mut file = io::buffer();
     let mut out = io::buffer();
-    let Three::Bytes(a, b, c) = argument::read_three(&rt, &mut edition, &mut file, &mut out) else {
-        mistake::tell(&rt, Mistake::TooLong);
-        return;
-    };
-    let outcome = work::work(
-        &rt,
-        Output::MaskedCopy,
-        &edition[..a],
-        &file[..b],
-        &out[..c],
-    );
-    verdict::print(&rt, Lines::Sales, outcome);
+    let (a, b, c) = argument::read_three(rt, &mut edition, &mut file, &mut out)?;
+    work::work(rt, Output::MaskedCopy, &edition[..a], &file[..b], &out[..c])
+}
+
+fn main(rt: HostRuntime) {
+    verdict::print(&rt, Lines::Sales, save_copy(&rt));
 }

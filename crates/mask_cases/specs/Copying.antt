@@ -1,9 +1,8 @@
 -- A masked copy that is made in an output: step by step, and whole.
-use Rattle.std.specs.Prelude.{ℕ, ◌+◌, ◌-◌, ◌≡◌, List, ◌++◌, cond, length, take, drop, leb, eqb}
+use Rattle.std.specs.Prelude.{ℕ, ◌+◌, ◌-◌, ◌≡◌, List, ◌++◌, None, Some, Ok, Err, cond, length, take, drop, leb, eqb}
 use Rattle.lines.specs.Lines.{finished_in}
 use Rattle.card_mask.specs.Masked.{masked_file}
-use Rattle.card_run.specs.declared.answer.CardAnswer.{CardAnswer}
-use Rattle.card_run.specs.declared.answer.CardAnswer.TheVariants.{GoingOn, Accepted, Refused}
+use Rattle.card_run.specs.Answer.{CardAnswer}
 use Rattle.cases.specs.Hash.{hash_from}
 use Rattle.cases.specs.Output.{pattern}
 
@@ -22,9 +21,9 @@ copied_into file out = cond (leb (length file) (length out)) (masked_file file +
 
 -- an output as every case finds it, with the masked copy of an accepted file in front where there is room
 abbrev pub put_into : CardAnswer → List ℕ → ℕ → List ℕ
-put_into GoingOn file size = pattern size
-put_into (Accepted numbers) file size = copied_into file (pattern size)
-put_into (Refused refusal) file size = pattern size
+put_into None file size = pattern size
+put_into (Some (Ok numbers)) file size = copied_into file (pattern size)
+put_into (Some (Err refusal)) file size = pattern size
 
 -- how many of all the cuts in two of a file have an output of this hash: all, since each has the same output, or none
 abbrev pub alike_of : CardAnswer → List ℕ → ℕ → ℕ → ℕ

@@ -10,6 +10,7 @@ use cases::hash::hash;
 use cases::output;
 
 // Masks the records that are finished between two places, and answers where the last of them ends.
+#[tactic(auto, using(crate::proofs::Copies::ends_within))]
 fn mask_between(copy: &mut [u8], done: usize, end: usize) -> usize
     requires done_le_end { done ≤ end }
     requires end_in_bounds { end ≤ length copy.old }
@@ -18,7 +19,8 @@ fn mask_between(copy: &mut [u8], done: usize, end: usize) -> usize
     done + card_mask::mask_lines(&mut copy[done..end])
 }
 
-// Masks a copy that is cut at places that look random. There are as many chunks as bytes, and those behind the last byte are empty.
+// Masks a copy that is cut at places that look random. There are as many chunks as bytes, and those behind the last byte are empty. Not by `cuts::in_chunks`,
+// which lends the chunks to be read: here they are masked where they stand.
 fn mask_in_chunks(copy: &mut [u8])
     ensures { copy.new ≡ masked_file copy.old }
 {
@@ -44,26 +46,19 @@ fn mask_in_two(copy: &mut [u8], place: usize)
     mask_between(copy, done, end);
 }
 
-// Writes the masked copy of a file that is cut at places that look random into the front of an output that has room for it.
-fn in_chunks(file: &[u8], out: &mut [u8])
-    ensures { out.new ≡ copied_into file.now out.old }
+// Fills an output, and puts the copy of an accepted file in front where there is room for it, masked by `mask`.
+fn put<F: FnOnce(&mut [u8])>(answer: CardAnswer, file: &[u8], out: &mut [u8], mask: F)
+    requires callable { (copy : _) → length copy.now ≡ length file.now → F.pre mask copy }
+    requires masks { (copy after : _) → F.post mask copy tt after → after.now ≡ masked_file copy.now }
+    ensures { out.new ≡ put_into answer file.now (length out.old) }
 {
+    output::fill(out);
     let length = file.len();
-    if length <= out.len() {
+    if let Some(Ok(_)) = answer
+        && length <= out.len()
+    {
         out[..length].copy_from_slice(file);
-        mask_in_chunks(&mut out[..length]);
-    }
-}
-
-// The same of a file that is cut in two at a place.
-fn in_two(file: &[u8], place: usize, out: &mut [u8])
-    requires { place ≤ length file.now }
-    ensures { out.new ≡ copied_into file.now out.old }
-{
-    let length = file.len();
-    if length <= out.len() {
-        out[..length].copy_from_slice(file);
-        mask_in_two(&mut out[..length], place);
+        mask(&mut out[..length]);
     }
 }
 
@@ -71,12 +66,7 @@ fn in_two(file: &[u8], place: usize, out: &mut [u8])
 pub fn put_in_chunks(answer: CardAnswer, file: &[u8], out: &mut [u8])
     ensures { out.new ≡ put_into answer file.now (length out.old) }
 {
-    output::fill(out);
-    match answer {
-        CardAnswer::GoingOn => {}
-        CardAnswer::Accepted(_) => in_chunks(file, out),
-        CardAnswer::Refused(_) => {}
-    }
+    put(answer, file, out, mask_in_chunks);
 }
 
 // The same, cut in two at a place.
@@ -84,26 +74,19 @@ fn put_in_two(answer: CardAnswer, file: &[u8], place: usize, out: &mut [u8])
     requires { place ≤ length file.now }
     ensures { out.new ≡ put_into answer file.now (length out.old) }
 {
-    output::fill(out);
-    match answer {
-        CardAnswer::GoingOn => {}
-        CardAnswer::Accepted(_) => in_two(file, place, out),
-        CardAnswer::Refused(_) => {}
-    }
+    put(answer, file, out, |copy| mask_in_two(copy, place));
 }
 
-// How many of all the cuts of a file in two give an output of this hash.
+// How many of all the cuts of a file in two give an output of this hash. Not by `cuts::how_many`, whose test would have to carry the output from cut to cut.
 pub fn cuts_alike(answer: CardAnswer, file: &[u8], out: &mut [u8], whole: u64) -> u64
     ensures { result ≡ alike_of answer file.now (length out.old) whole }
 {
     let mut alike = 0;
-    let mut place = 0;
-    while place <= file.len() {
+    for place in 0..file.len() + 1 {
         put_in_two(answer, file, place, out);
         if hash(out) == whole {
             alike += 1;
         }
-        place += 1;
     }
     alike
 }

@@ -3,6 +3,4 @@ pub mod Drives
 pub mod Everywhere
 pub mod Runs
 pub mod Slashes
-pub mod Tellings
-pub mod Texts
 pub mod WayOn

@@ -1,49 +1,32 @@
--- What the last byte of a path does to the size of its folder.
-use Prim.Native.Nat.{ℕ, suc, ◌+◌, ◌-◌, ◌≤◌, ◌<◌}
+-- The last '/' of a path, and the size of its folder.
+use Prim.Native.Nat.{ℕ, zero, suc, ◌+◌, ◌≤◌, ◌<◌}
 use mathlib.Core.Path.{◌≡◌, refl, sym}
-use mathlib.Core.List.{List, [], ◌∷◌, ◌++◌}
+use mathlib.Core.List.{List, [], ◌∷◌}
 use mathlib.Core.Bool.{Bool, true, false, cond}
 use native.Mathlib.Omega.{arith}
-use lib.ListN.{length, take, get_or, length-take}
-use lib.Seq.{take-suc, length-take-le}
+use lib.ListN.{length, get_or, length-take}
 use lib.Dec.{eqb, ltb}
-use borrow.Author.Tests.{lt-ltb, ne_eqb}
+use borrow.Author.Tests.{lt-ltb, eq-eqb, ne_eqb}
 use Rattle.out_file.specs.Beside.{folder_size, folder_of}
 
--- a '/' at the end: all of it
-slash_last : (s : List ℕ) → folder_size (s ++ (47 ∷ [])) ≡ length s + 1
+-- no '/': no folder
+pub no_slash : (s : List ℕ) → ((k : ℕ) → k < length s → get_or s k 0 ≡ 47 → ⊥) → 0 ≡ folder_size s
 unfolding folder_size
-slash_last [] = refl
-slash_last (a ∷ s) = rw (slash_last s, lt-ltb 0 (length s + 1) (omega arith)) (omega arith)
+no_slash [] other = refl
+no_slash (b ∷ s) other =
+    let rest : folder_size s ≡ 0 = sym (no_slash s (λ k h. other (suc k) (omega arith))) in
+    rw (rest, ne_eqb b 47 (other 0 (omega arith))) refl
 
--- another byte at the end: as without it
-other_last : (s : List ℕ) (b : ℕ) → (b ≡ 47 → ⊥) → folder_size (s ++ (b ∷ [])) ≡ folder_size s
+-- the last '/': all up to it, and with it
+pub last_slash : (s : List ℕ) (i : ℕ) → i < length s → get_or s i 0 ≡ 47 → ((k : ℕ) → i + 1 ≤ k → k < length s → get_or s k 0 ≡ 47 → ⊥) → i + 1 ≡ folder_size s
 unfolding folder_size
-other_last [] b h = rw (ne_eqb b 47 h)
-other_last (a ∷ s) b h = rw (other_last s b h)
-
--- the same of the first bytes of a path
-module _ (s : List ℕ) (j : ℕ) (h : j < length s) where
-  slash_behind : get_or s j 0 ≡ 47 → folder_size (take (suc j) s) ≡ suc j
-  slash_behind e =
-      let l : j ≤ length s = omega arith in
-      rw (take-suc s j 0, e, slash_last, length-take-le) (omega arith)
-
-  other_behind : (get_or s j 0 ≡ 47 → ⊥) → folder_size (take (suc j) s) ≡ folder_size (take j s)
-  other_behind e = rw (take-suc s j 0, other_last (take j s) _ e)
-
-module _ (s : List ℕ) (i : ℕ) (p : 0 < i) (h : i ≤ length s) where
-  -- those that end in a '/' are a folder
-  pub slash_at : get_or s (i - 1) 0 ≡ 47 → folder_size (take i s) ≡ i
-  slash_at e =
-      let k : suc (i - 1) ≡ i = omega arith in
-      rw k at (slash_behind s (i - 1) (omega arith) e)
-
-  -- a last byte that is no '/' may go
-  pub other_at : (get_or s (i - 1) 0 ≡ 47 → ⊥) → folder_size (take (i - 1) s) ≡ folder_size (take i s)
-  other_at e =
-      let k : suc (i - 1) ≡ i = omega arith in
-      sym (rw k at (other_behind s (i - 1) (omega arith) e))
+last_slash [] i h is other = absurd (omega arith)
+last_slash (b ∷ s) zero h is other =
+    let rest : folder_size s ≡ 0 = sym (no_slash s (λ k h. other (suc k) (omega arith) (omega arith))) in
+    rw (rest, eq-eqb b 47 is) refl
+last_slash (b ∷ s) (suc i) h is other =
+    let rest : i + 1 ≡ folder_size s = last_slash s i (omega arith) is (λ k h l. other (suc k) (omega arith) (omega arith)) in
+    rw (lt-ltb 0 (folder_size s) (omega arith)) (omega arith)
 
 -- a folder is no longer than its path
 within : (t u : Bool) (n m : ℕ) → n ≤ m → cond t (suc n) (cond u 1 0) ≤ suc m

@@ -1,5 +1,5 @@
 // The system calls that save a file. Each asks that the machine of `step` names it, and gives the number of the error where it went wrong.
-ghost use Rattle.std.specs.Prelude.{◌≡◌};
+ghost use Rattle.std.specs.Prelude.{◌≡◌, ◌⊎◌};
 ghost use Rattle.out_file.specs.Driving.{Turned};
 
 use crate::draft::Draft;
@@ -15,20 +15,14 @@ pub(crate) const OWNER_ALONE: u32 = 0o600;
 
 // Gives the file of one name another.
 fn rename_named(rt: &HostRuntime, name: &[u8], path: &[u8]) -> Result<(), u64> {
-    let Ok(from) = str::from_utf8(name) else {
-        return Err(opening::NO_TEXT);
-    };
-    let Ok(to) = str::from_utf8(path) else {
-        return Err(opening::NO_TEXT);
-    };
+    let from = str::from_utf8(name).map_err(|_| opening::NO_TEXT)?;
+    let to = str::from_utf8(path).map_err(|_| opening::NO_TEXT)?;
     error::numbered(fs::rename(rt, from, to))
 }
 
 // Removes the file of a name.
 fn remove_named(rt: &HostRuntime, name: &[u8]) -> Result<(), u64> {
-    let Ok(text) = str::from_utf8(name) else {
-        return Err(opening::NO_TEXT);
-    };
+    let text = str::from_utf8(name).map_err(|_| opening::NO_TEXT)?;
     error::numbered(fs::remove_file(rt, text))
 }
 
@@ -44,6 +38,11 @@ fn write_file(file: &File, bytes: &[u8]) -> Result<(), u64> {
 }
 
 impl Draft {
+    // The open file, or that there is none.
+    fn open_file(&self) -> Result<&File, u64> {
+        self.file.as_ref().ok_or(0)
+    }
+
     // Makes the file of this temporary name, whose mark is filled in by chance.
     fn create_as(self, rt: &HostRuntime, name: &mut [u8]) -> Draft
         requires { self.step ≡ Step.Create }
@@ -76,38 +75,28 @@ impl Draft {
     pub(crate) fn narrow(&self) -> Result<(), u64>
         requires { self.now.step ≡ Step.Narrow }
     {
-        match &self.file {
-            Some(file) => narrow_file(file),
-            None => Err(0),
-        }
+        narrow_file(self.open_file()?)
     }
 
     pub(crate) fn write_on(&self, bytes: &[u8]) -> Result<(), u64>
         requires { self.now.step ≡ Step.Write }
     {
-        match &self.file {
-            Some(file) => write_file(file, bytes),
-            None => Err(0),
-        }
+        write_file(self.open_file()?, bytes)
     }
 
     // Sees that all of it has reached the disk.
     pub(crate) fn store(&self) -> Result<(), u64>
         requires { self.now.step ≡ Step.Store }
     {
-        match &self.file {
-            Some(file) => error::numbered(file.sync_all()),
-            None => Err(0),
-        }
+        error::numbered(self.open_file()?.sync_all())
     }
 
-    // Closes the file. The library tells nothing of how that went; all of it has reached the disk before.
+    // Closes the file, which is not to stay or all of which has reached the disk before: the library tells nothing of how closing went.
     pub(crate) fn close(self) -> Draft
-        requires { self.step ≡ Step.Close }
+        requires { (self.step ≡ Step.Close) ⊎ (self.step ≡ Step.Abandon) }
         ensures { Turned self.step result.step }
     {
-        let mut closed = self;
-        closed.file = None;
+        let closed = Draft { file: None, ..self };
         closed.told(Ok(()))
     }
 
@@ -125,16 +114,6 @@ impl Draft {
         requires { self.now.step ≡ Step.SyncFolder }
     {
         folder::sync(rt, path)
-    }
-
-    // Closes the file, which is not to stay.
-    pub(crate) fn abandon(self) -> Draft
-        requires { self.step ≡ Step.Abandon }
-        ensures { Turned self.step result.step }
-    {
-        let mut closed = self;
-        closed.file = None;
-        closed.told(Ok(()))
     }
 
     // Removes the closed file.

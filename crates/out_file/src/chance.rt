@@ -20,30 +20,25 @@ const COUNT: u8 = 62;
 // Puts six letters by chance in the place of the last bytes of a name; a shorter name stays.
 fn fill_in(rt: &HostRuntime, name: &mut [u8]) -> Result<(), u64> {
     let mut chance = [0u8; beside::MARK];
-    if let Err(error) = rt.fill_bytes(&mut chance) {
-        return Err(error::number(&error));
-    }
+    error::numbered(rt.fill_bytes(&mut chance))?;
     if name.len() < beside::MARK {
         return Ok(());
     }
     let from = name.len() - beside::MARK;
-    for i in 0..beside::MARK {
-        name[from + i] = LETTERS[(chance[i] % COUNT) as usize];
+    for (letter, byte) in name[from..].iter_mut().zip(chance) {
+        *letter = LETTERS[usize::from(byte % COUNT)];
     }
     Ok(())
 }
 
 // Makes a file of this name, which its owner alone may read and write; a name that is taken is an error.
 fn create_named(rt: &HostRuntime, name: &[u8]) -> Result<File, u64> {
-    let Ok(text) = str::from_utf8(name) else {
-        return Err(opening::NO_TEXT);
-    };
+    let text = str::from_utf8(name).map_err(|_| opening::NO_TEXT)?;
     let mut options = OpenOptions::new();
     options.write(true).create_new(true).mode(call::OWNER_ALONE);
-    match options.open(rt, text) {
-        Ok(file) => Ok(file),
-        Err(error) => Err(error::number(&error)),
-    }
+    options
+        .open(rt, text)
+        .map_err(|error| error::number(&error))
 }
 
 // Makes a file of this name, of which chance fills in the last bytes.

@@ -36,21 +36,20 @@ impl Draft {
     fn answered(self, went: Went) -> Draft
         ensures { result.step ≡ next_of self.step went }
     {
-        let step = self.step;
-        let mut moved = self;
-        moved.step = step.next(went);
-        moved
+        Draft {
+            step: self.step.next(went),
+            ..self
+        }
     }
 
     // Notes the number of the error that a call left, where it is the first.
     pub fn noted(self, error: u64) -> Draft
         ensures { result.step ≡ self.step }
     {
-        let mut noted = self;
-        if noted.error == 0 {
-            noted.error = error;
+        match self.error {
+            0 => Draft { error, ..self },
+            _ => self,
         }
-        noted
     }
 
     // Tells the machine whether a call went well.
@@ -63,12 +62,12 @@ impl Draft {
         }
     }
 
-    // Makes the call that the machine names, and tells it how that went. Where it rests there is none, and it stays there.
+    // Makes the call that the machine names, and tells it how that went. Where it rests there is none, and it stays there. The steps are data, of which
+    // `Turned` and `Driven` speak, and each call asks for its own step: closures would carry neither.
     fn turn(self, rt: &HostRuntime, path: &[u8]) -> Draft
         ensures { Turned self.step result.step }
     {
-        let step = self.step;
-        match step {
+        match self.step {
             Step::Create => self.create(rt, path),
             Step::Narrow => {
                 let went = self.narrow();
@@ -78,7 +77,7 @@ impl Draft {
                 let went = self.store();
                 self.told(went)
             }
-            Step::Close => self.close(),
+            Step::Close | Step::Abandon => self.close(),
             Step::Rename => {
                 let went = self.rename(rt, path);
                 self.told(went)
@@ -87,7 +86,6 @@ impl Draft {
                 let went = self.sync_folder(rt, path);
                 self.told(went)
             }
-            Step::Abandon => self.abandon(),
             Step::Remove => {
                 let went = self.remove(rt, path);
                 self.told(went)
@@ -100,8 +98,7 @@ impl Draft {
     fn is_resting(&self) -> bool
         ensures { result ≡ is_resting self.now.step }
     {
-        let step = self.step;
-        step.is_resting()
+        self.step.is_resting()
     }
 
     // Makes the machine's calls until it rests.
@@ -120,8 +117,7 @@ impl Draft {
     pub fn write(&self, bytes: &[u8]) -> Result<(), u64>
         ensures { IsOk result → self.now.step ≡ Step.Write }
     {
-        let step = self.step;
-        match step {
+        match self.step {
             Step::Write => self.write_on(bytes),
             _ => Err(0),
         }

@@ -15,31 +15,24 @@ const NO_SUCH_THING: u64 = 22;
 fn folder_size(path: &[u8]) -> usize
     ensures { result ≡ folder_size path.now }
 {
-    let mut size = path.len();
-    while 0 < size {
-        if path[size - 1] == b'/' {
-            return size;
-        }
-        size -= 1;
+    match path.iter().rposition(|byte| *byte == b'/') {
+        Some(last) => last + 1,
+        None => 0,
     }
-    0
 }
 
 // The part of a path that names its folder. Of one that no path can have, as much as makes the name too long for the system, which then says so.
 pub(crate) fn folder_of(path: &[u8]) -> &[u8]
     ensures { result.now ≡ folder_of path.now }
 {
-    let size = folder_size(path);
-    if PATH_MAX < size {
-        return &path[..PATH_MAX];
-    }
+    let size = folder_size(path).min(PATH_MAX);
     &path[..size]
 }
 
 // Opens the folder of a path.
 fn open_folder(rt: &HostRuntime, path: &[u8]) -> Result<File, u64> {
     let folder = folder_of(path);
-    if folder.len() == 0 {
+    if folder.is_empty() {
         return opening::open(rt, b".");
     }
     opening::open(rt, folder)

@@ -4,10 +4,7 @@ use std::{fs, str};
 
 // Whether a path is a link, wherever it leads.
 fn is_link(rt: &HostRuntime, path: &str) -> bool {
-    match fs::symlink_metadata(rt, path) {
-        Ok(known) => known.is_symlink(),
-        Err(_) => false,
-    }
+    fs::symlink_metadata(rt, path).is_ok_and(|known| known.is_symlink())
 }
 
 // Whether a file may take this path: nothing stands there, or a regular file does, or a link that leads to one. At a path that is too long, or no text,

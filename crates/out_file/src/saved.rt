@@ -6,33 +6,15 @@ use crate::draft::Draft;
 use crate::step::Step;
 use program::mistake::{Failed, Mistake};
 
-#[derive(Clone, Copy)]
-pub enum Saved {
-    Kept,
-    Told(Mistake),
-}
-
 impl Draft {
-    // What is told of a file that has come to its end; of any other that it is not written.
-    pub fn saved(self) -> Saved
+    // Whether it has its path, or what is told where not all went well; of a file that has not come to its end, that it is not written.
+    pub fn saved(self) -> Result<(), Mistake>
         ensures { result ≡ saved_of self.step self.error }
     {
-        let step = self.step;
-        let error = self.error;
-        let unwritten = Saved::Told(Mistake::System(Failed::Write, error));
-        match step {
-            Step::Create => unwritten,
-            Step::Narrow => unwritten,
-            Step::Write => unwritten,
-            Step::Store => unwritten,
-            Step::Close => unwritten,
-            Step::Rename => unwritten,
-            Step::SyncFolder => unwritten,
-            Step::Abandon => unwritten,
-            Step::Remove => unwritten,
-            Step::Kept => Saved::Kept,
-            Step::Unsynced => Saved::Told(Mistake::System(Failed::Sync, error)),
-            Step::Gone => unwritten,
+        match self.step {
+            Step::Kept => Ok(()),
+            Step::Unsynced => Err(Mistake::System(Failed::Sync, self.error)),
+            _ => Err(Mistake::System(Failed::Write, self.error)),
         }
     }
 }

@@ -45,8 +45,7 @@ impl Went {
     {
         match self {
             Went::Well => good,
-            Went::Last => bad,
-            Went::Wrong => bad,
+            Went::Last | Went::Wrong => bad,
         }
     }
 
@@ -77,9 +76,7 @@ impl Step {
             Step::SyncFolder => went.choose(Step::Kept, Step::Unsynced),
             Step::Abandon => Step::Remove,
             Step::Remove => Step::Gone,
-            Step::Kept => Step::Kept,
-            Step::Unsynced => Step::Unsynced,
-            Step::Gone => Step::Gone,
+            Step::Kept | Step::Unsynced | Step::Gone => self,
         }
     }
 
@@ -87,19 +84,6 @@ impl Step {
     pub fn is_resting(self) -> bool
         ensures { result ≡ is_resting self }
     {
-        match self {
-            Step::Create => false,
-            Step::Narrow => false,
-            Step::Write => true,
-            Step::Store => false,
-            Step::Close => false,
-            Step::Rename => false,
-            Step::SyncFolder => false,
-            Step::Abandon => false,
-            Step::Remove => false,
-            Step::Kept => true,
-            Step::Unsynced => true,
-            Step::Gone => true,
-        }
+        matches!(self, Step::Write | Step::Kept | Step::Unsynced | Step::Gone)
     }
 }

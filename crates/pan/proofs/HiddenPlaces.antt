@@ -1,6 +1,6 @@
 -- Where the hidden places of a field lie, and what decides them: of a well-formed field its leading zeros alone.
 use Prim.Native.Nat.{ℕ, ◌+◌, ◌-◌, ◌≤◌, ◌<◌}
-use mathlib.Core.Path.{◌≡◌, refl, sym, ◌∙◌, ap}
+use mathlib.Core.Path.{◌≡◌, refl, sym, ◌∙◌, ap, ap₂}
 use mathlib.Core.List.{List}
 use mathlib.Core.Bool.{Bool, true, false, cond, false≢true}
 use native.Mathlib.Omega.{arith}
@@ -9,7 +9,7 @@ use lib.Dec.{leb, ltb}
 use borrow.Author.Tests.{le-leb, le-ltb, leb-true, leb-false, ltb-true}
 use Rattle.text.proofs.Alphabets.{both_left, both_right}
 use Rattle.pan.specs.declared.Places.{Places}
-use Rattle.pan.specs.CardField.{well_formed, leading_zeros}
+use Rattle.pan.specs.CardField.{well_formed, leading_zeros, valid_characters}
 use Rattle.pan.specs.HiddenPlaces.{shown_in_front, shown_at_end, hidden_places, hidden_place, is_among, SameHiddenPlaces}
 use Rattle.pan.specs.AgreeOutside.{AgreeOutside}
 use Rattle.pan.proofs.Tests.{by_test}
@@ -43,7 +43,29 @@ pub of_unformed : (s : List ℕ) → well_formed s ≡ false → hidden_places s
 unfolding hidden_places
 of_unformed s e = rw e
 
--- the hidden places end with the field or before
+-- the valid characters of a well-formed field are those that the leading zeros leave of 19
+pub counted : (s r : List ℕ) → well_formed s ≡ true → r ≡ valid_characters s → length r ≡ 19 - leading_zeros s
+counted s r e v = ap length v ∙ length-drop (leading_zeros s) s ∙ ap (λ n. n - leading_zeros s) (width s e)
+
+-- so its hidden places are told by their count
+pub placed : (s r : List ℕ) (f e : ℕ) → well_formed s ≡ true → r ≡ valid_characters s →
+    f ≡ shown_in_front (length r) → e ≡ shown_at_end (length r) →
+    ◌≡◌ {A = Places} (record { from = 19 - length r + f; to = 19 - e }) (hidden_places s)
+placed s r f e w v x y =
+    let n = counted s r w v in
+    ap₂ (λ a b. record { from = a; to = b })
+    (omega (arith, n, within s, width s w, x ∙ ap shown_in_front n))
+    (ap (λ k. 19 - k) (y ∙ ap shown_at_end n)) ∙
+    sym (of_formed s w)
+
+-- the hidden places begin where they end or before
+pub in_order : (s : List ℕ) → (hidden_places s).from ≤ (hidden_places s).to
+in_order s =
+    by_test (well_formed s)
+    (λ e. rw (of_formed s e) (omega (arith, shown (19 - leading_zeros s), within s, width s e)))
+    (λ e. rw (of_unformed s e) (omega arith))
+
+-- and end with the field or before
 pub end_inside : (s : List ℕ) → (hidden_places s).to ≤ length s
 end_inside s =
     by_test (well_formed s)

@@ -1,14 +1,18 @@
 -- Laws of `star_where`: what each byte is, and when two starred fields are equal. Fields are compared byte by byte.
-use Prim.Native.Nat.{ℕ, zero, suc, ◌+◌, ◌≤◌, ◌<◌}
+use Prim.Native.Nat.{ℕ, zero, suc, ◌+◌, ◌-◌, ◌≤◌, ◌<◌}
 use mathlib.Core.Path.{◌≡◌, refl, sym, ◌∙◌, ap, ap₂}
 use mathlib.Core.Logic.{◌↔◌}
 use mathlib.Core.List.{List, [], ◌∷◌, ◌++◌}
 use mathlib.Core.Bool.{Bool, true, false, cond, ◌&&◌, ◌||◌, or_self}
 use native.Mathlib.Omega.{arith}
-use lib.ListN.{length, get_or, set, length-set}
-use lib.Seq.{ext_get_or, get_or-set_same, get_or-set_other}
-use lib.Dec.{leb, ltb, eqb}
-use borrow.Author.Tests.{le-leb, lt-leb, lt-ltb, le-ltb, leb-true, leb-false, eqb-true, eqb-false}
+use lib.ListN.{length, get_or, replicate, length-replicate}
+use lib.Seq.{ext_get_or}
+use borrow.Author.Rules.{rules}
+use borrow.Rule.Slice.PartMut.{put_mid}
+use Rattle.std.proofs.lemmas.List.{places}
+use Rattle.std.proofs.lemmas.Slice.{overwrites}
+use lib.Dec.{leb, ltb}
+use borrow.Author.Tests.{le-leb, lt-leb, lt-ltb, le-ltb, leb-true, leb-false, ltb-true, ltb-false}
 use Rattle.pan.specs.HiddenPlaces.{is_among}
 use Rattle.pan.specs.Masked.{star_where}
 use Rattle.pan.specs.AgreeOutside.{AgreeOutside}
@@ -68,34 +72,33 @@ in_a_row p (b ∷ s) t =
     (in_a_row (λ i. p (suc i)) s t ∙
     ap (λ r. star_where (λ i. p (suc i)) s ++ r) (same_tests _ (λ i. p (suc (length s) + i)) t (λ i k. ap p (omega arith))))
 
--- a row of places starred: the first of them, and then the rest
-pub first_then_rest : (s : List ℕ) (i to : ℕ) → i < to → i < length s →
-    star_where (is_among (record { from = i; to = to })) s ≡ star_where (is_among (record { from = i + 1; to = to })) (set s i 42)
-first_then_rest s i to h k =
-    by_bytes (is_among (record { from = i; to = to })) s (star_where (is_among (record { from = i + 1; to = to })) (set s i 42))
-    (sym (length_kept _ (set s i 42) ∙ length-set s i 42))
-    (λ j l. by_test (eqb j i) (here j) (elsewhere j) ∙ sym (at_place _ (set s i 42) j (rw length-set l)))
+-- a row of places filled with stars: before them, among them and behind them
+pub filled : (s : List ℕ) (from to : ℕ) → from ≤ to → to ≤ length s →
+    put_mid from (to - from) s (replicate (to - from) 42) ≡ star_where (is_among (record { from = from; to = to })) s
+filled s from to h k =
+    sym (by_bytes (is_among (record { from = from; to = to })) s (put_mid from (to - from) s (replicate (to - from) 42))
+    (search (rules, overwrites, length-replicate))
+    (λ i l. each i l))
   where
-    Starred : ℕ → Type 0
-    Starred j = cond (leb i j && ltb j to) 42 (get_or s j 0) ≡ cond (leb (i + 1) j && ltb j to) 42 (get_or (set s i 42) j 0)
+    Byte : ℕ → Type 0
+    Byte i = cond (leb from i && ltb i to) 42 (get_or s i 0) ≡ get_or (put_mid from (to - from) s (replicate (to - from) 42)) i 0
 
-    here : (j : ℕ) → eqb j i ≡ true → Starred j
-    here j e = rw (eqb-true j i e, le-leb i i (omega arith), lt-ltb i to h, lt-leb (i + 1) i (omega arith), get_or-set_same s i 42 0 k)
+    before : (i : ℕ) → i < length s → i < from → Byte i
+    before i l f = rw (lt-leb from i f) (search (rules, places))
 
-    next : (j : ℕ) → (j ≡ i → ⊥) → leb i j ≡ leb (i + 1) j
-    next j n =
-        by_test (leb i j)
-        (λ e. e ∙ sym (le-leb (i + 1) j (omega (arith, leb-true i j e))))
-        (λ e. e ∙ sym (lt-leb (i + 1) j (omega (arith, leb-false i j e))))
+    among : (i : ℕ) → i < length s → from ≤ i → i < to → Byte i
+    among i l f t = rw (le-leb from i f, lt-ltb i to t) (search (rules, places))
 
-    elsewhere : (j : ℕ) → eqb j i ≡ false → Starred j
-    elsewhere j e = rw (get_or-set_other s i j 42 0 (eqb-false j i e), next j (eqb-false j i e))
+    behind : (i : ℕ) → i < length s → from ≤ i → to ≤ i → Byte i
+    behind i l f t = rw (le-leb from i f, le-ltb i to t) (search (rules, places))
 
--- an empty row of places: the field as it is
-pub none_left : (s : List ℕ) (i to : ℕ) → to ≤ i → star_where (is_among (record { from = i; to = to })) s ≡ s
-none_left s i to h =
-    none_picked (is_among (record { from = i; to = to })) s
-    (λ j k. by_test (leb i j) (λ e. rw (e, le-ltb j to (omega (arith, leb-true i j e)))) (λ e. rw e))
+    each : (i : ℕ) → i < length s → Byte i
+    each i l =
+        by_test (leb from i)
+        (λ f. by_test (ltb i to)
+        (λ t. among i l (leb-true from i f) (ltb-true i to t))
+        (λ t. behind i l (leb-true from i f) (ltb-false i to t)))
+        (λ f. before i l (leb-false from i f))
 
 -- a starred field agrees with the old one outside the starred places
 pub outside : (p : ℕ → Bool) (s : List ℕ) → AgreeOutside p (star_where p s) s

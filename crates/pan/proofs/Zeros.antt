@@ -1,31 +1,26 @@
--- Laws of the leading zeros: what one byte does to their count, and which bytes decide it.
-use Prim.Native.Nat.{ℕ, suc, ◌+◌, ◌≤◌, ◌<◌}
-use mathlib.Core.Path.{◌≡◌, refl, ap}
+-- Laws of the leading zeros: that they are those taken from the front, and which bytes decide their count.
+use Prim.Native.Nat.{ℕ, suc, ◌≤◌, ◌<◌}
+use mathlib.Core.Path.{◌≡◌, refl, ap, ◌∙◌}
 use mathlib.Core.List.{List, [], ◌∷◌}
 use mathlib.Core.Bool.{Bool, true, false, cond}
-use native.Mathlib.Numerals.{add-one}
+use native.Mathlib.Numerals.{one-add}
+use Rattle.std.specs.Prelude.{nat_eq}
+use Rattle.std.specs.List.{take_while, prefix_len}
+use Rattle.std.proofs.lemmas.List.Folds.{length-prefix_len}
 use native.Mathlib.Omega.{arith}
-use lib.ListN.{length, get_or, drop, drop_of_length-le}
-use lib.Seq.{drop-cons}
+use lib.ListN.{length, get_or}
 use lib.Dec.{eqb}
-use borrow.Author.Tests.{eq-eqb, ne_eqb}
 use Rattle.pan.specs.CardField.{leading_zeros}
 use Rattle.pan.proofs.Tests.{by_test}
 
--- a zero: the count goes on behind it
-pub passed : (s : List ℕ) (i : ℕ) → i < length s → get_or s i 0 ≡ 48 → i + leading_zeros (drop i s) ≡ i + 1 + leading_zeros (drop (i + 1) s)
+-- they are the zeros that are taken from the front
+counted : (s : List ℕ) → prefix_len (λ b. nat_eq b 48) s ≡ leading_zeros s
 unfolding leading_zeros
-passed s i h e = rw (drop-cons s i 0 h, add-one, eq-eqb _ _ e) (omega arith)
+counted [] = refl
+counted (b ∷ s) = ap (λ n. cond (eqb b 48) n 0) (one-add (prefix_len (λ c. nat_eq c 48) s) ∙ ap suc (counted s))
 
--- any other byte, a star too: the count ends there
-pub stopped : (s : List ℕ) (i : ℕ) → i < length s → (get_or s i 0 ≡ 48 → ⊥) → i + leading_zeros (drop i s) ≡ i
-unfolding leading_zeros
-stopped s i h e = rw (drop-cons s i 0 h, ne_eqb _ _ e) (omega arith)
-
--- no byte left: the count ends there too
-pub ended : (s : List ℕ) (i : ℕ) → length s ≤ i → i + leading_zeros (drop i s) ≡ i
-unfolding leading_zeros
-ended s i h = rw (drop_of_length-le s h) (omega arith)
+pub taken : (s : List ℕ) → length (take_while (λ b. nat_eq b 48) s) ≡ leading_zeros s
+taken s = length-prefix_len (λ b. nat_eq b 48) s ∙ counted s
 
 -- there are no more zeros than bytes
 pub within : (s : List ℕ) → leading_zeros s ≤ length s

@@ -10,7 +10,7 @@ fn main(rt: HostRuntime) {
     let count = argument::count(&rt);
     if count < 2 {
         verdict::print(&rt, check::check(&mut rt.stdin()));
-        return;
+    } else {
+        listed::print(&rt, list::list(&rt, count));
     }
-    listed::print(&rt, list::list(&rt, count));
 }

@@ -7,12 +7,6 @@ use lib.ListN.{length, take, drop, set, drop_of_length-le}
 use lib.Seq.{length-take-le, set_split, drop_at}
 use Rattle.payroll_cases.specs.Record.{digits_of}
 
--- before the first digit
-pub none_put : (field : List ℕ) (n : ℕ) → digits_of (length field) n ++ drop (length field) field ≡ digits_of (length field) n
-none_put field n =
-    let none : drop (length field) field ≡ [] = drop_of_length-le field {i = length field} (omega arith) in
-    ap (λ l. digits_of (length field) n ++ l) none ∙ append-nil (digits_of (length field) n)
-
 -- one digit more, in front of those that are put
 pub one_put : (field : List ℕ) (left n : ℕ) → 0 < left → left ≤ length field →
     digits_of (left - 1) (n / 10) ++ drop (left - 1) (set field (left - 1) (48 + n % 10)) ≡ digits_of left n ++ drop left field

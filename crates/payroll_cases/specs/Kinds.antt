@@ -1,21 +1,18 @@
 -- The records of the files that are made, one definition for each kind.
-use Rattle.std.specs.Prelude.{ℕ, ◌+◌}
+use Rattle.std.specs.Prelude.{ℕ, ◌+◌, Option, None, Some}
 use Rattle.payroll_cases.specs.declared.record.Field.{Field}
 use Rattle.payroll_cases.specs.declared.record.Record.{Record}
 
--- a number behind the first bytes of a record, up to the last of its field; and none
-abbrev pub field : ℕ → ℕ → ℕ → Field
-field first last number = record { first = first; last = last; number = number }
-
-abbrev pub none : Field
-none = field 0 0 0
+-- a number behind the first bytes of a record, up to the last of its field
+abbrev pub field : ℕ → ℕ → ℕ → Option Field
+field first last number = Some (record { first = first; last = last; number = number })
 
 -- the file header: 143 is 1, the date 144-151
 abbrev pub file_header : Record
-file_header = record { kind = 0; batch = 0; letter = 32; one = field 142 151 115112023; two = none; three = none }
+file_header = record { kind = 0; batch = 0; letter = 32; one = field 142 151 115112023; two = None; three = None }
 
 abbrev pub batch_header : ℕ → Record
-batch_header batch = record { kind = 1; batch = batch; letter = 32; one = none; two = none; three = none }
+batch_header batch = record { kind = 1; batch = batch; letter = 32; one = None; two = None; three = None }
 
 -- a payment: the detail number 9-13, the date 94-101, the amount 120-134
 abbrev pub payment : ℕ → ℕ → ℕ → Record
@@ -24,8 +21,8 @@ payment batch amount number =
 
 -- the trailer of a batch of so many payments: its records 18-23, the sum of its payments 24-41
 abbrev pub batch_trailer : ℕ → ℕ → ℕ → Record
-batch_trailer batch payments sum = record { kind = 5; batch = batch; letter = 32; one = field 17 23 (payments + 2); two = field 23 41 sum; three = none }
+batch_trailer batch payments sum = record { kind = 5; batch = batch; letter = 32; one = field 17 23 (payments + 2); two = field 23 41 sum; three = None }
 
 -- the file trailer: the batches 18-23, all records 24-29
 abbrev pub file_trailer : ℕ → ℕ → Record
-file_trailer batches records = record { kind = 9; batch = 9999; letter = 32; one = field 17 23 batches; two = field 23 29 records; three = none }
+file_trailer batches records = record { kind = 9; batch = 9999; letter = 32; one = field 17 23 batches; two = field 23 29 records; three = None }

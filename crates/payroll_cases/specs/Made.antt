@@ -1,5 +1,5 @@
 -- A file that is made in an output: its records, one behind the other.
-use Rattle.std.specs.Prelude.{ℕ, zero, suc, ◌+◌, cond, length, take, drop, leb, eqb}
+use Rattle.std.specs.Prelude.{ℕ, zero, suc, ◌+◌, Option, None, Some, cond, length, take, drop, leb}
 use mathlib.Core.List.{List, [], ◌∷◌, ◌++◌, foldl}
 use Rattle.payroll_cases.specs.declared.record.Record.{Record}
 use Rattle.payroll_cases.specs.declared.made.Plan.{Plan}
@@ -40,12 +40,20 @@ alike_batches plan zero = []
 alike_batches plan (suc n) = alike_batches plan n ++ batch_of (suc n) plan.payments plan.amount plan.sum
 
 -- the batch of one payment behind them, where the plan has one
+abbrev pub batch_behind : ℕ → Option ℕ → List Record
+batch_behind batches None = []
+batch_behind batches (Some last) = batch_of (batches + 1) 1 last last
+
 abbrev pub last_batch : Plan → List Record
-last_batch plan = cond (eqb plan.last 0) [] (batch_of (plan.batches + 1) 1 plan.last plan.last)
+last_batch plan = batch_behind plan.batches plan.last
 
 -- how many batches it has
+abbrev pub count_with : ℕ → Option ℕ → ℕ
+count_with batches None = batches
+count_with batches (Some last) = batches + 1
+
 abbrev pub batch_count : Plan → ℕ
-batch_count plan = cond (eqb plan.last 0) plan.batches (plan.batches + 1)
+batch_count plan = count_with plan.batches plan.last
 
 -- the file trailer of a plan
 abbrev pub trailer_of : Plan → Record

@@ -1,5 +1,5 @@
 -- The records of files that are made: blanks, and numbers at their positions.
-use Rattle.std.specs.Prelude.{ℕ, zero, suc, ◌+◌, ◌*◌, ◌-◌, ◌/◌, ◌%◌, List, [], ◌∷◌, ◌++◌, cond, ◌&&◌, length, take, drop, set, replicate, leb}
+use Rattle.std.specs.Prelude.{ℕ, zero, suc, ◌+◌, ◌*◌, ◌-◌, ◌/◌, ◌%◌, List, [], ◌∷◌, ◌++◌, Option, None, Some, cond, ◌&&◌, length, take, drop, set, replicate, leb}
 use Rattle.payroll_cases.specs.declared.record.Field.{Field}
 use Rattle.payroll_cases.specs.declared.record.Record.{Record}
 
@@ -16,13 +16,18 @@ with_number first last n r = take first r ++ (digits_of (last - first) n ++ drop
 unfoldable pub with_field : Field → List ℕ → List ℕ
 with_field f r = cond (leb f.first f.last && leb f.last (length r)) (with_number f.first f.last f.number r) r
 
+-- a number of a record's own, where it has one
+abbrev pub with_own : Option Field → List ℕ → List ℕ
+with_own None r = r
+with_own (Some f) r = with_field f r
+
 -- the bank 1-3, the batch 4-7 and the kind 8, as one number
 abbrev pub front_of : Record → Field
 front_of what = record { first = 0; last = 8; number = 42200000 + what.batch % 10000 * 10 + what.kind % 10 }
 
 -- all numbers of a record
 unfoldable pub with_numbers : Record → List ℕ → List ℕ
-with_numbers what r = with_field what.three (with_field what.two (with_field what.one (with_field (front_of what) r)))
+with_numbers what r = with_own what.three (with_own what.two (with_own what.one (with_field (front_of what) r)))
 
 -- 240 blanks, with the letter 14, and CR LF
 abbrev pub blanks_with : ℕ → List ℕ

@@ -2,7 +2,7 @@
 ghost use Rattle.std.specs.Prelude.{◌≡◌};
 ghost use Rattle.payroll_cases.specs.Kinds.{file_header, batch_header, payment, batch_trailer, file_trailer};
 
-use crate::record::{Field, NONE, Record};
+use crate::record::{Field, Record};
 
 // The date of each payment, DDMMAAAA.
 const DATE: u64 = 15_112_023;
@@ -18,13 +18,13 @@ pub fn file_header() -> Record
         kind: 0,
         batch: 0,
         letter: b' ',
-        one: Field {
+        one: Some(Field {
             first: 142,
             last: 151,
             number: HEADER_DATE,
-        },
-        two: NONE,
-        three: NONE,
+        }),
+        two: None,
+        three: None,
     }
 }
 
@@ -35,9 +35,9 @@ pub fn batch_header(batch: u64) -> Record
         kind: 1,
         batch,
         letter: b' ',
-        one: NONE,
-        two: NONE,
-        three: NONE,
+        one: None,
+        two: None,
+        three: None,
     }
 }
 
@@ -49,21 +49,21 @@ pub fn payment(batch: u64, amount: u64, number: u64) -> Record
         kind: 3,
         batch,
         letter: b'A',
-        one: Field {
+        one: Some(Field {
             first: 8,
             last: 13,
             number,
-        },
-        two: Field {
+        }),
+        two: Some(Field {
             first: 93,
             last: 101,
             number: DATE,
-        },
-        three: Field {
+        }),
+        three: Some(Field {
             first: 119,
             last: 134,
             number: amount,
-        },
+        }),
     }
 }
 
@@ -75,17 +75,17 @@ pub fn batch_trailer(batch: u64, payments: u32, sum: u64) -> Record
         kind: 5,
         batch,
         letter: b' ',
-        one: Field {
+        one: Some(Field {
             first: 17,
             last: 23,
             number: payments as u64 + 2,
-        },
-        two: Field {
+        }),
+        two: Some(Field {
             first: 23,
             last: 41,
             number: sum,
-        },
-        three: NONE,
+        }),
+        three: None,
     }
 }
 
@@ -97,16 +97,16 @@ pub fn file_trailer(batches: u64, records: u64) -> Record
         kind: 9,
         batch: 9999,
         letter: b' ',
-        one: Field {
+        one: Some(Field {
             first: 17,
             last: 23,
             number: batches,
-        },
-        two: Field {
+        }),
+        two: Some(Field {
             first: 23,
             last: 29,
             number: records,
-        },
-        three: NONE,
+        }),
+        three: None,
     }
 }

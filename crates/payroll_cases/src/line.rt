@@ -1,8 +1,9 @@
 // The line of a payroll file: its answer.
-use crate::{row, streamed};
+use crate::streamed;
+use answer_rows::payroll::payroll_row;
 use cases::{answer, print};
 use payroll_file::answer::{Accepted, PayrollAnswer};
-use payroll_stream::Progress;
+use refusal::Progress;
 
 // The longest file that is cut at every place.
 const CUT_MOST: usize = 1000;
@@ -17,10 +18,7 @@ fn print_accepted(accepted: Accepted) {
 }
 
 fn print_answer(answer: PayrollAnswer) {
-    match answer {
-        PayrollAnswer::Accepted(accepted) => print_accepted(accepted),
-        PayrollAnswer::Refused(refusal) => answer::print_refusal(refusal),
-    }
+    answer::print_answer(answer, print_accepted);
 }
 
 // Prints the answer of a file read whole, a line.
@@ -30,11 +28,8 @@ pub fn print_whole(file: &[u8]) {
 }
 
 // Prints the answer of a stream, a line; `-` where there is none.
-pub fn print_progress(progress: Progress) {
-    match progress {
-        Progress::GoingOn => print::byte(b'-'),
-        Progress::Answered(answer) => print_answer(answer),
-    }
+pub fn print_progress(progress: Progress<Accepted>) {
+    answer::print_progress(progress, print_accepted);
     print::byte(b'\n');
 }
 
@@ -50,5 +45,5 @@ pub fn print_cuts(file: &[u8]) {
     }
     let whole = payroll_file::file::check(file);
     print_answer(whole);
-    answer::next_cuts(streamed::cuts_alike(file, &row::payroll_row(whole)));
+    answer::next_cuts(streamed::cuts_alike(file, &payroll_row(whole)));
 }

@@ -1,5 +1,5 @@
 // A batch of as many payments as a detail number can tell, and one of one more. They are too long to be made whole: each record is made and taken by itself.
-ghost use Rattle.std.specs.Prelude.{◌+◌, ◌≡◌, [], ◌∷◌, ◌++◌};
+ghost use Rattle.std.specs.Prelude.{◌+◌, ◌≡◌, Some, [], ◌∷◌, ◌++◌};
 ghost use Rattle.payroll_file.specs.PayrollFile.{check_of};
 ghost use Rattle.payroll_stream.specs.Stream.{taken_of};
 ghost use Rattle.payroll_cases.specs.Record.{record_of};
@@ -9,9 +9,11 @@ ghost use Rattle.payroll_cases.specs.Plans.{long_batch};
 ghost use Rattle.payroll_cases.specs.LongBatch.{taken_all, file_of};
 
 use crate::record::Record;
-use crate::{kinds, line, record, streamed};
+use crate::{kinds, line, record};
 use cases::print;
-use payroll_stream::{Progress, Stream};
+use payroll_file::answer::Accepted;
+use payroll_stream::Stream;
+use refusal::Progress;
 
 // The last detail number that five digits tell.
 const MOST: u32 = 99_999;
@@ -29,10 +31,8 @@ fn take_payments(stream: Stream, payments: u64) -> Stream
     ensures { result ≡ taken_all stream (payments_of 1 1 payments) }
 {
     let mut next = stream;
-    let mut number = 0;
-    while number < payments {
-        number += 1;
-        next = take_record(next, kinds::payment(1, 1, number));
+    for number in 0..payments {
+        next = take_record(next, kinds::payment(1, 1, number + 1));
     }
     next
 }
@@ -49,12 +49,12 @@ fn take_batch(stream: Stream, payments: u32) -> Stream
 }
 
 // The answer of a file of one batch of so many payments of one centavo.
-fn answer(payments: u32) -> Progress
-    ensures { result ≡ Progress.Answered (check_of (file_of (long_batch payments))) }
+fn answer(payments: u32) -> Progress<Accepted>
+    ensures { result ≡ Some (check_of (file_of (long_batch payments))) }
 {
     let header = take_record(Stream::open(), kinds::file_header());
     let last = take_batch(header, payments);
-    streamed::finished(last, &[b'\x1a'])
+    last.take(&[b'\x1a']).end().answer()
 }
 
 // Prints the lines of both.

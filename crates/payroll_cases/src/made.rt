@@ -13,8 +13,8 @@ pub struct Plan {
     pub payments: u32,
     pub amount: u64,
     pub sum: u64,
-    // The amount of the one payment of one more batch; 0 where there is none.
-    pub last: u64,
+    // The amount of the one payment of one more batch.
+    pub last: Option<u64>,
     // How many records the file trailer counts.
     pub records: u64,
 }
@@ -24,15 +24,14 @@ fn put_payments(batch: u64, payments: u64, amount: u64, out: &mut [u8], at: usiz
     ensures { made out.new result ≡ put_all (made out.old at) (payments_of batch amount payments) }
 {
     let mut end = at;
-    let mut number = 0;
-    while number < payments {
-        number += 1;
-        end = record::put(kinds::payment(batch, amount, number), out, end);
+    for number in 0..payments {
+        end = record::put(kinds::payment(batch, amount, number + 1), out, end);
     }
     end
 }
 
 // Puts a batch: its header, its payments and its trailer.
+#[tactic(auto, using(crate::proofs::Making::put_on))]
 fn put_batch(batch: u64, payments: u32, amount: u64, sum: u64, out: &mut [u8], at: usize) -> usize
     ensures { made out.new result ≡ put_all (made out.old at) (batch_of batch payments amount sum) }
 {
@@ -47,10 +46,8 @@ fn put_batches(plan: Plan, out: &mut [u8], at: usize) -> usize
 {
     let batches = plan.batches as u64;
     let mut end = at;
-    let mut batch = 0;
-    while batch < batches {
-        batch += 1;
-        end = put_batch(batch, plan.payments, plan.amount, plan.sum, out, end);
+    for batch in 0..batches {
+        end = put_batch(batch + 1, plan.payments, plan.amount, plan.sum, out, end);
     }
     end
 }
@@ -59,20 +56,20 @@ fn put_batches(plan: Plan, out: &mut [u8], at: usize) -> usize
 fn put_last(plan: Plan, out: &mut [u8], at: usize) -> usize
     ensures { made out.new result ≡ put_all (made out.old at) (last_batch plan) }
 {
-    if plan.last == 0 {
-        return at;
+    match plan.last {
+        Some(last) => put_batch(plan.batches as u64 + 1, 1, last, last, out, at),
+        None => at,
     }
-    put_batch(plan.batches as u64 + 1, 1, plan.last, plan.last, out, at)
 }
 
 // How many batches a plan has.
 fn batches_of(plan: Plan) -> u64
     ensures { result ≡ batch_count plan }
 {
-    if plan.last == 0 {
-        return plan.batches as u64;
+    match plan.last {
+        Some(_) => plan.batches as u64 + 1,
+        None => plan.batches as u64,
     }
-    plan.batches as u64 + 1
 }
 
 // Puts the file header.
@@ -91,6 +88,7 @@ fn put_trailer(plan: Plan, out: &mut [u8], at: usize) -> usize
 }
 
 // Puts the records of a file, and answers how many bytes they take.
+#[tactic(auto, using(crate::proofs::Making::put_on))]
 pub fn put_records(plan: Plan, out: &mut [u8]) -> usize
     ensures { made out.new result ≡ put_all (made out.old 0) (records_of plan) }
 {

@@ -2,11 +2,8 @@
 // by record; and again of both in chunks, and the small ones of our own cut in two at every place.
 #![tactic(auto)]
 
-ghost use Rattle.std.specs.Prelude.{◌+◌, ◌≤◌, min, length};
-
-use cases::cursor::LENGTH_BYTES;
-use cases::source::{Source, Way};
-use cases::{cursor, file};
+use cases::layout::PART;
+use cases::source::{CUT_AT_EVERY_PLACE, IN_CHUNKS, Source, WHOLE};
 
 mod kinds;
 mod line;
@@ -14,50 +11,21 @@ mod long_batch;
 mod made;
 mod print_made;
 mod record;
-mod row;
 mod streamed;
 
-// Prints the line of a file.
-fn print_file(file: &[u8], way: Way) {
-    match way {
-        Way::Whole => line::print_whole(file),
-        Way::InChunks => line::print_in_chunks(file),
-        Way::CutAtEveryPlace => line::print_cuts(file),
-    }
-}
-
-// Prints the line of the case at a place, and answers the place behind it.
-fn print_case(cases: &[u8], at: usize, way: Way) -> usize
-    ensures { min (at + 1) (length cases.now) ≤ result }
+// Prints the lines of a file of cases, which are run in this way.
+fn print_all<F: Fn(&[u8])>(rt: &HostRuntime, source: Source, way: &[u8], print: F)
+    requires { F.IsAlwaysCallable print }
 {
-    let length = cursor::number_at(cases, at, LENGTH_BYTES);
-    print_file(length.part(cases), way);
-    length.behind_part()
-}
-
-// Prints the lines of all cases.
-fn print_cases(cases: &[u8], way: Way) {
-    let mut at = 0;
-    while at < cases.len() {
-        at = print_case(cases, at, way);
-    }
-    cursor::print_end(cases, at);
-}
-
-// Prints the lines of a file of cases.
-fn print_all(rt: &HostRuntime, source: Source, way: Way) {
-    let mut buffer = file::room();
-    source.print_title(way);
-    let size = source.load(rt, &mut buffer);
-    print_cases(&buffer[..size], way);
+    source.print_cases(rt, way, PART, |_, file| print(file));
 }
 
 fn main(rt: HostRuntime) {
-    print_all(&rt, Source::Outside, Way::Whole);
-    print_all(&rt, Source::Own, Way::Whole);
+    print_all(&rt, Source::Outside, WHOLE, line::print_whole);
+    print_all(&rt, Source::Own, WHOLE, line::print_whole);
     print_made::print_all();
     long_batch::print_all();
-    print_all(&rt, Source::Outside, Way::InChunks);
-    print_all(&rt, Source::Own, Way::InChunks);
-    print_all(&rt, Source::Own, Way::CutAtEveryPlace);
+    print_all(&rt, Source::Outside, IN_CHUNKS, line::print_in_chunks);
+    print_all(&rt, Source::Own, IN_CHUNKS, line::print_in_chunks);
+    print_all(&rt, Source::Own, CUT_AT_EVERY_PLACE, line::print_cuts);
 }

@@ -40,13 +40,13 @@ fn one_batch(payments: u32, sum: u64) -> Plan
         payments,
         amount: LARGEST,
         sum,
-        last: 0,
+        last: None,
         records: payments as u64 + 4,
     }
 }
 
-// So many batches of a thousand payments of the largest amount, and one more of one payment where `last` is not 0.
-fn large_batches(batches: u32, last: u64, records: u64) -> Plan
+// So many batches of a thousand payments of the largest amount, and one more of one payment where there is a `last`.
+fn large_batches(batches: u32, last: Option<u64>, records: u64) -> Plan
     ensures { result ≡ large_batches batches last records }
 {
     Plan {
@@ -68,7 +68,7 @@ fn empty_batches(batches: u32) -> Plan
         payments: 0,
         amount: 0,
         sum: 0,
-        last: 0,
+        last: None,
         records: batches as u64 * 2 + 2,
     }
 }
@@ -82,15 +82,15 @@ fn print_sums(room: &mut [u8]) {
 
 // The amounts of a whole file, of which ten batches have 10^19 - 10000: 10^19 - 1; and 10^19, with the byte 1A, without, and behind a wrong count.
 fn print_amounts(room: &mut [u8]) {
-    print_file(large_batches(10, 9999, 10025), room);
-    print_file(large_batches(10, 10000, 10025), room);
-    print_records(large_batches(10, 10000, 10025), room);
-    print_file(large_batches(10, 10000, 10026), room);
+    print_file(large_batches(10, Some(9999), 10025), room);
+    print_file(large_batches(10, Some(10000), 10025), room);
+    print_records(large_batches(10, Some(10000), 10025), room);
+    print_file(large_batches(10, Some(10000), 10026), room);
 }
 
 // Many batches: of an amount past 2^64, which is below 10^19 where it wraps; as many as there may be; and one more.
 fn print_many(room: &mut [u8]) {
-    print_file(large_batches(19, 0, 19040), room);
+    print_file(large_batches(19, None, 19040), room);
     print_file(empty_batches(9998), room);
     print_file(empty_batches(9999), room);
 }

@@ -2,27 +2,26 @@
 use mathlib.Core.Path.{◌≡◌, refl, sym, ◌∙◌, ap}
 use mathlib.Core.Logic.{◌↔◌}
 use mathlib.Core.Bool.{true, true≢false, false≢true}
+use Rattle.std.specs.Prelude.{Ok, Err}
 use Rattle.refusal.specs.declared.Refusal.{Refusal}
 use Rattle.refusal.specs.Row.{no_refusal}
 use Rattle.refusal.proofs.RefusalRows.{same_refusal, not_none}
 use Rattle.payroll_run.specs.declared.stage.Stage.{Stage}
 use Rattle.payroll_run.specs.declared.stage.Stage.TheVariants.{Start, BetweenBatches, InBatch, BehindA, BehindB, Ended, Refused as Stopped}
-use Rattle.payroll_file.specs.declared.answer.PayrollAnswer.{PayrollAnswer}
-use Rattle.payroll_file.specs.declared.answer.PayrollAnswer.TheVariants.{Accepted, Refused}
-use Rattle.payroll_file.specs.Answer.{refused_row, payroll_row, state_row}
+use Rattle.payroll_file.specs.Answer.{PayrollAnswer, refused_row, payroll_row, state_row}
 
 pub same_answer : (a b : PayrollAnswer) → payroll_row a ≡ payroll_row b → a ≡ b
 unfolding payroll_row
-same_answer (Accepted a) (Accepted b) e = ap Accepted (ap (λ row. row.numbers) e)
-same_answer (Accepted a) (Refused s) e = absurd (true≢false (ap (λ row. row.accepted) e))
-same_answer (Refused r) (Accepted b) e = absurd (false≢true (ap (λ row. row.accepted) e))
-same_answer (Refused r) (Refused s) e = ap Refused (same_refusal r s (ap (λ row. row.refusal) e))
+same_answer (Ok a) (Ok b) e = ap Ok (ap (λ row. row.numbers) e)
+same_answer (Ok a) (Err s) e = absurd (true≢false (ap (λ row. row.accepted) e))
+same_answer (Err r) (Ok b) e = absurd (false≢true (ap (λ row. row.accepted) e))
+same_answer (Err r) (Err s) e = ap Err (same_refusal r s (ap (λ row. row.refusal) e))
 
 -- an accepted answer has its numbers in the row
-pub is_accepted_lem : (a : PayrollAnswer) → (payroll_row a).accepted ≡ true → a ≡ Accepted (payroll_row a).numbers
+pub is_accepted_lem : (a : PayrollAnswer) → (payroll_row a).accepted ≡ true → a ≡ Ok (payroll_row a).numbers
 unfolding payroll_row
-is_accepted_lem (Accepted n) e = refl
-is_accepted_lem (Refused r) e = absurd (false≢true e)
+is_accepted_lem (Ok n) e = refl
+is_accepted_lem (Err r) e = absurd (false≢true e)
 
 -- a stage is refused as its row tells
 pub refused_stage : (s : Stage) (x : Refusal) → (state_row s ≡ refused_row x) ↔ (s ≡ Stopped x)

@@ -1,3 +1,2 @@
 pub mod FileRows
-mod Ends
 pub mod Steps

@@ -1,12 +1,14 @@
 -- The answer of a payroll file: the row that document 01 gives for each.
-use Rattle.std.specs.Prelude.{Bool, true, false}
+use Rattle.std.specs.Prelude.{Bool, true, false, Result, Ok, Err}
 use Rattle.refusal.specs.declared.Refusal.{Refusal}
 use Rattle.refusal.specs.Row.{RefusalRow, no_refusal, refusal_row}
 use Rattle.payroll_run.specs.declared.stage.Stage.{Stage}
 use Rattle.payroll_run.specs.declared.stage.Stage.TheVariants.{Start, BetweenBatches, InBatch, BehindA, BehindB, Ended, Refused as Stopped}
 use Rattle.payroll_file.specs.declared.answer.Accepted.{Accepted as Numbers}
-use Rattle.payroll_file.specs.declared.answer.PayrollAnswer.{PayrollAnswer}
-use Rattle.payroll_file.specs.declared.answer.PayrollAnswer.TheVariants.{Accepted, Refused}
+
+-- the answer of a file: its numbers, or why it is refused
+abbrev pub PayrollAnswer : Type 0
+PayrollAnswer = Result Numbers Refusal
 
 -- whether the file is accepted, the refusal's number, record and column, and the file's counts and amount
 pub record PayrollRow : Type 0 where
@@ -27,8 +29,8 @@ refused_row r = record { accepted = false; refusal = refusal_row r; numbers = no
 
 -- "The answer is records, batches, payments (A records) and amount"
 unfoldable pub payroll_row : PayrollAnswer → PayrollRow
-payroll_row (Accepted a) = record { accepted = true; refusal = no_refusal; numbers = a }
-payroll_row (Refused r) = refused_row r
+payroll_row (Ok a) = record { accepted = true; refusal = no_refusal; numbers = a }
+payroll_row (Err r) = refused_row r
 
 -- the row of a state, at its stage: refused, or none yet
 unfoldable pub state_row : Stage → PayrollRow

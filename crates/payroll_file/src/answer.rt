@@ -1,5 +1,5 @@
 // The answer of a payroll file.
-use refusal::Refusal;
+use refusal::Answer;
 
 // The numbers of an accepted file; the amount is in centavos.
 #[derive(Clone, Copy)]
@@ -10,8 +10,5 @@ pub struct Accepted {
     pub amount: u64,
 }
 
-#[derive(Clone, Copy)]
-pub enum PayrollAnswer {
-    Accepted(Accepted),
-    Refused(Refusal),
-}
+// Accepted, or refused.
+pub type PayrollAnswer = Answer<Accepted>;

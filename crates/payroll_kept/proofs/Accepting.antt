@@ -5,6 +5,7 @@ use mathlib.Core.List.{List, [], ◌∷◌, ◌++◌}
 use native.Mathlib.Omega.{arith}
 use lib.ListN.{length, length-append}
 use lib.Dec.{lit≤}
+use Rattle.std.specs.Prelude.{Ok}
 use Rattle.text.specs.Literal.{same_bytes}
 use Rattle.totals.specs.Sum.{top}
 use Rattle.payroll_record.specs.declared.kind.Kind.TheVariants.{FileHeader, BatchHeader, BatchTrailer, FileTrailer}
@@ -13,7 +14,6 @@ use Rattle.payroll_run.specs.declared.stage.Stage.TheVariants.{BetweenBatches, E
 use Rattle.payroll_run.specs.declared.running.Batch.{Batch as Open}
 use Rattle.payroll_run.specs.declared.running.Running.{Running}
 use Rattle.payroll_file.specs.declared.answer.Accepted.{Accepted}
-use Rattle.payroll_file.specs.declared.answer.PayrollAnswer.TheVariants.{Accepted as accepted}
 use Rattle.payroll_run.specs.Stage.{placed}
 use Rattle.payroll_run.specs.State.{opened, moved, returned}
 use Rattle.payroll_file.specs.PayrollFile.{ended_of, end_at, end_of, ran_of, check_of}
@@ -171,7 +171,7 @@ batches_few (b ∷ bs) =
     )
 
 -- a file that keeps the rules is accepted with its numbers: the trailer's fields have six digits, so none is cut at the top
-pub kept_accepted : (bytes : List ℕ) (k : Kept bytes) → check_of bytes ≡ accepted (plain_numbers k.file)
+pub kept_accepted : (bytes : List ℕ) (k : Kept bytes) → check_of bytes ≡ Ok (plain_numbers k.file)
 unfolding end_at ended_of same_bytes
 kept_accepted bytes k =
     let f = k.file in
@@ -186,4 +186,4 @@ kept_accepted bytes k =
     let m : min (amount_of (payments_of f)) top ≡ amount_of (payments_of f) = omega (arith, k.keeps.amount) in
     ap check_of k.is ∙ ap (ran_of opened) (file_cut f k.keeps) ∙
     ap (λ st. end_of st (26 ∷ [])) (lines_are opened (records_of f) ∙ t.is) ∙
-    (λ i. accepted (record { records = e i; batches = g i; payments = h i; amount = m i }))
+    (λ i. Ok (record { records = e i; batches = g i; payments = h i; amount = m i }))

@@ -6,17 +6,17 @@ use mathlib.Core.List.{List, [], ◌∷◌, ◌++◌}
 use mathlib.Core.Bool.{Bool, true, false, cond, not}
 use lib.ListN.{length}
 use lib.Dec.{eqb}
+use Rattle.std.specs.Prelude.{Ok, Err}
 use Rattle.refusal.specs.declared.Cause.TheVariants.{KindUnknown, WrongWidth, BytesAfterTheEnd}
 use Rattle.refusal.specs.Rules.{Rule, rule_at, first_broken}
 use Rattle.refusal.proofs.Rules.{same_row}
-use Rattle.text.specs.declared.number.Number.{Number}
 use Rattle.text.specs.Part.{positions}
+use Rattle.text.specs.Number.{Number}
 use Rattle.payroll_record.specs.declared.kind.Kind.{Kind}
 use Rattle.payroll_record.specs.declared.kind.Kind.TheVariants.{FileHeader, BatchHeader, SegmentA, SegmentB, SegmentZ, BatchTrailer, FileTrailer}
-use Rattle.payroll_record.specs.declared.kind.KindFound.{KindFound}
-use Rattle.payroll_record.specs.declared.kind.KindFound.TheVariants.{Known, UnknownKind, UnknownSegment}
+use Rattle.payroll_record.specs.declared.kind.NoKind.TheVariants.{UnknownKind, UnknownSegment}
 use Rattle.payroll_record.specs.declared.reading.Reading.TheVariants.{WrongWidth as wrong_width}
-use Rattle.payroll_record.specs.Kind.{kind_of}
+use Rattle.payroll_record.specs.Kind.{kind_of, KindFound}
 use Rattle.payroll_record.specs.Front.{front_rules}
 use Rattle.payroll_record.specs.FileHeader.{header_rules}
 use Rattle.payroll_record.specs.Detail.{payment_rules}
@@ -43,7 +43,7 @@ module _ (st : Running) (r : List ℕ) where
       (same_row (found_rules (first_broken front)) front (due_rules dues numbers ++ behind) (due_rules dues numbers ++ rest) (sym (found (first_broken front)))
       (same_row (due_rules dues numbers) (due_rules dues numbers) behind rest refl q))
 
-  kind_fault : (kind : Kind) → first_broken (rules_of st (read_as kind r)) ≡ first_broken (rules_as (Known kind) st r)
+  kind_fault : (kind : Kind) → first_broken (rules_of st (read_as kind r)) ≡ first_broken (rules_as (Ok kind) st r)
   unfolding rules_of read_as found_rules
   kind_fault FileHeader = as_found FileHeader (header_rules r) (due_of FileHeader st) _ _ _ refl
   kind_fault BatchHeader = as_found BatchHeader (front_rules r) (due_of BatchHeader st) _ _ _ refl
@@ -63,12 +63,12 @@ same_fault st r = by (eqb (length r) 240) (kind_of r) refl refl
         first_broken (rules_of st (cond w (read_found f r) wrong_width)) ≡
         first_broken (rule_at WrongWidth 0 w ∷ rule_at KindUnknown 8 (kind_known r) ∷ rule_at KindUnknown 14 (segment_known r) ∷ rules_as f st r)
     by false f wide is = refl
-    by true (Known kind) wide is =
+    by true (Ok kind) wide is =
         let tests = both_known (positions 8 8 r) (positions 14 14 r) kind (kind_named_lem (positions 8 8 r) (positions 14 14 r) kind is) in
         kind_fault st r kind ∙ rw (tests.0, tests.1)
-    by true UnknownKind wide is = rw ((no_kind (positions 8 8 r) (positions 14 14 r) UnknownKind is).0 refl)
-    by true UnknownSegment wide is =
-        let tests = (no_kind (positions 8 8 r) (positions 14 14 r) UnknownSegment is).1 refl in
+    by true (Err UnknownKind) wide is = rw ((no_kind (positions 8 8 r) (positions 14 14 r) (Err UnknownKind) is).0 refl)
+    by true (Err UnknownSegment) wide is =
+        let tests = (no_kind (positions 8 8 r) (positions 14 14 r) (Err UnknownSegment) is).1 refl in
         rw (tests.0, tests.1)
 
 -- so the first fault of the list decides what comes behind a record

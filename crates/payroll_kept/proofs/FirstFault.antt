@@ -4,9 +4,10 @@ use mathlib.Core.Path.{◌≡◌, refl, sym, ◌∙◌, ap, subst}
 use mathlib.Core.Logic.{◌↔◌}
 use mathlib.Core.List.{List}
 use mathlib.Core.Bool.{true}
+use Rattle.refusal.proofs.Faults.{same_fault}
+use Rattle.refusal.specs.Fault.{Judged}
+use Rattle.std.specs.Prelude.{Ok, Err}
 use Rattle.refusal.specs.declared.Cause.{Cause}
-use Rattle.refusal.specs.declared.Fault.{Fault}
-use Rattle.refusal.specs.declared.Fault.TheVariants.{Nothing, At}
 use Rattle.refusal.specs.declared.Refusal.{Refusal}
 use Rattle.refusal.specs.Rules.{first_broken, all_hold}
 use Rattle.refusal.proofs.Rules.{all_hold_lem, none_broken, is_first, gives_first}
@@ -68,24 +69,24 @@ record ByStage (st : Running) (r : List ℕ) : Type 0 where
   is_not : Going (took_of st (reading_of r)) ↔ (all_hold (record_rules st r) ≡ true)
 
 module _ (st : Running) (r : List ℕ) (going : Going st) where
-  by_fault : (fault : Fault) → first_broken (record_rules st r) ≡ fault → took_of st (reading_of r) ≡ behind_or_refused st (reading_of r) fault → ByStage st r
+  by_fault : (fault : Judged) → first_broken (record_rules st r) ≡ fault → took_of st (reading_of r) ≡ behind_or_refused st (reading_of r) fault → ByStage st r
   unfolding behind_or_refused
-  by_fault Nothing f e =
+  by_fault (Ok none) f e =
       let on : Going (took_of st (reading_of r)) = λ x q. goes_on st going (reading_of r) x (sym (ap (λ next. next.stage) e) ∙ q) in
       record {
         is_refused_lem = λ x. (λ q. absurd (on x q), λ by. clash (let z = sym f ∙ gives_first by.first_broken_lem in cc));
         is_not = (λ g. all_hold_lem (record_rules st r) f, λ h. on);
       }
-  by_fault (At cause column) f e =
-      let stopped : (took_of st (reading_of r)).stage ≡ Refused (refusal_at cause column st) = ap (λ next. next.stage) e in
+  by_fault (Err fault) f e =
+      let stopped : (took_of st (reading_of r)).stage ≡ Refused (refusal_at fault.cause fault.column st) = ap (λ next. next.stage) e in
       record {
         is_refused_lem = λ x. (
-          λ q. subst (RefusedBy st (record_rules st r)) (names st cause column x (sym stopped ∙ q))
-              (record { number = refl; first_broken_lem = is_first (record_rules st r) cause column f }),
+          λ q. subst (RefusedBy st (record_rules st r)) (names st fault.cause fault.column x (sym stopped ∙ q))
+              (record { number = refl; first_broken_lem = is_first (record_rules st r) fault.cause fault.column f }),
           λ by.
-              let same : At cause column ≡ At x.cause x.column = sym f ∙ gives_first by.first_broken_lem in
-              let c : cause ≡ x.cause = cc in
-              let k : column ≡ x.column = cc in
+              let same = same_fault (sym f ∙ gives_first by.first_broken_lem) in
+              let c : fault.cause ≡ x.cause = ap (λ f. f.cause) same in
+              let k : fault.column ≡ x.column = ap (λ f. f.column) same in
               let n = by.number in
               stopped ∙ (λ i. Refused (record { cause = c i; «record» = sym n i; column = k i })),
         );

@@ -5,6 +5,7 @@ use mathlib.Core.Path.{◌≡◌, refl, sym, ◌∙◌, ap, subst}
 use mathlib.Core.Logic.{◌⊎◌, inl, inr}
 use mathlib.Core.List.{List, [], ◌∷◌}
 use lib.ListN.{length}
+use Rattle.std.specs.Prelude.{Ok, Err}
 use Rattle.refusal.specs.declared.Cause.{Cause}
 use Rattle.refusal.specs.declared.Refusal.{Refusal}
 use Rattle.refusal.specs.Rules.{first_broken}
@@ -13,9 +14,8 @@ use Rattle.lines.specs.Lines.{cut}
 use Rattle.first_fault.specs.InTurn.{rest, FirstFault, NoFault}
 use Rattle.first_fault.proofs.InTurn.{none_or_first}
 use Rattle.payroll_file.specs.declared.answer.Accepted.{Accepted}
-use Rattle.payroll_file.specs.declared.answer.PayrollAnswer.TheVariants.{Accepted as is_accepted, Refused as refused}
 use Rattle.payroll_run.specs.State.{opened, next_number}
-use Rattle.payroll_file.specs.Answer.{payroll_row}
+use Rattle.payroll_file.specs.Answer.{payroll_row, PayrollAnswer}
 use Rattle.payroll_file.proofs.FileRows.{same_answer, is_accepted_lem}
 use Rattle.payroll_file.specs.PayrollFile.{accepted, check_of}
 use Rattle.payroll_kept.specs.Accepts.{Accepts}
@@ -26,11 +26,11 @@ use Rattle.payroll_kept.proofs.Pieces.{answered, rest_answered, finished, finish
 use Rattle.payroll_kept.proofs.State.{goes_on, state_known}
 
 module _ (file : List ℕ) where
-  accepted_no_refusal : {A : Type 0} {x : Refusal} {a : Accepted} → refused x ≡ is_accepted a → A
+  accepted_no_refusal : {A : Type 0} {x : Refusal} {a : Accepted} → ◌≡◌ {A = PayrollAnswer} (Err x) (Ok a) → A
   accepted_no_refusal e = clash (cc)
 
   -- a first fault leads to its refusal
-  fault_refused : (x : Refusal) → FirstFaultOfFile file x → check_of file ≡ refused x
+  fault_refused : (x : Refusal) → FirstFaultOfFile file x → check_of file ≡ Err x
   unfolding finished
   fault_refused x f =
       let w = f.fault in
@@ -41,7 +41,7 @@ module _ (file : List ℕ) where
       let number : next_number st ≡ x.«record» = known.number ∙ sym f.number in
       sym (finished_pieces opened (cut file).pieces (rest (cut file).rest ∷ [])) ∙ ap (finished opened) w.split ∙
       finished_pieces opened w.earlier (w.here ∷ w.later) ∙ given ∙
-      (λ i. refused (record { cause = x.cause; «record» = number i; column = x.column }))
+      (λ i. Err (record { cause = x.cause; «record» = number i; column = x.column }))
 
   -- and where there is none the file is accepted
   none_accepted : NoFault rules_behind file → check_of file ≡ accepted (state_behind (cut file).pieces)
@@ -52,7 +52,7 @@ module _ (file : List ℕ) where
       rest_answered st (cut file).rest (goes_on (cut file).pieces none.pieces_hold_lem) ∙ ap (answered st) end
 
   -- one of the two it is
-  refused_from : (x : Refusal) → check_of file ≡ refused x → NoFault rules_behind file ⊎ ((cause : Cause) × (column : ℕ) × FirstFault rules_behind file cause column) →
+  refused_from : (x : Refusal) → check_of file ≡ Err x → NoFault rules_behind file ⊎ ((cause : Cause) × (column : ℕ) × FirstFault rules_behind file cause column) →
       FirstFaultOfFile file x
   refused_from x e (inl none) = accepted_no_refusal (sym e ∙ none_accepted none)
   refused_from x e (inr (cause, column, w)) =
@@ -73,7 +73,7 @@ module _ (file : List ℕ) where
   first_fault_decides =
       let found = none_or_first rules_behind file in
       record {
-        is_refused_lem = λ x. (λ e. refused_from x (same_answer _ (refused x) e) found, λ f. ap payroll_row (fault_refused x f));
+        is_refused_lem = λ x. (λ e. refused_from x (same_answer _ (Err x) e) found, λ f. ap payroll_row (fault_refused x f));
         is_accepted_lem = (
           λ e. accepted_from (record { numbers = _; answer = is_accepted_lem _ e }) found,
           λ none. ap (λ answer. (payroll_row answer).accepted) (none_accepted none),

@@ -5,12 +5,12 @@ use mathlib.Core.List.{List, [], ◌∷◌, map}
 use mathlib.Core.Bool.{false≢true}
 use native.Mathlib.Omega.{arith}
 use lib.ListN.{length, length-append}
+use Rattle.std.specs.Prelude.{Ok}
 use Rattle.lines.specs.Lines.{with_cr, rejoined, cut}
 use Rattle.lines.proofs.Cuts.{cut_is_cut, records_are_pieces}
 use Rattle.payroll_record.specs.declared.kind.Kind.{Kind}
 use Rattle.payroll_record.specs.declared.kind.Kind.TheVariants.{FileHeader, BatchHeader, SegmentA, SegmentB, SegmentZ, BatchTrailer, FileTrailer}
 use Rattle.payroll_file.specs.declared.answer.Accepted.{Accepted}
-use Rattle.payroll_file.specs.declared.answer.PayrollAnswer.TheVariants.{Accepted as accepted}
 use Rattle.payroll_run.specs.State.{opened}
 use Rattle.payroll_file.specs.PayrollFile.{check_of}
 use Rattle.payroll_kept.specs.Kept.{File, batches_records, records_of, FileKept, Kept}
@@ -64,7 +64,7 @@ whole (p ∷ ps) rest a h =
     subst (λ p. Whole (p ∷ ps) rest) (sym one.is) (begins one.bytes ps rest a one.taken took.kind took.next)
 
 -- so the bytes are those of the file
-pub accepted_kept : (bytes : List ℕ) (a : Accepted) → check_of bytes ≡ accepted a → Kept bytes
+pub accepted_kept : (bytes : List ℕ) (a : Accepted) → check_of bytes ≡ Ok a → Kept bytes
 accepted_kept bytes a h =
     let ls = cut bytes in
     let w = whole ls.pieces ls.rest a h in

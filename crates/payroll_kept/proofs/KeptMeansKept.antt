@@ -2,8 +2,9 @@
 use Prim.Native.Nat.{ℕ}
 use mathlib.Core.Path.{◌≡◌, sym, ◌∙◌, subst}
 use mathlib.Core.List.{List}
+use Rattle.payroll_file.specs.Answer.{PayrollAnswer}
+use Rattle.std.specs.Prelude.{Ok}
 use Rattle.payroll_file.specs.declared.answer.Accepted.{Accepted}
-use Rattle.payroll_file.specs.declared.answer.PayrollAnswer.TheVariants.{Accepted as accepted}
 use Rattle.payroll_file.specs.PayrollFile.{check_of}
 use Rattle.payroll_kept.specs.Accepts.{Accepts}
 use Rattle.payroll_kept.specs.Kept.{Kept}
@@ -20,8 +21,8 @@ kept_means_kept bytes = (
 )
 
 -- its numbers are the plain ones of its records
-pub plain_numbers_lem : (bytes : List ℕ) (a : Accepted) → check_of bytes ≡ accepted a → (kept : Kept bytes) → Numbers kept.file a
+pub plain_numbers_lem : (bytes : List ℕ) (a : Accepted) → check_of bytes ≡ Ok a → (kept : Kept bytes) → Numbers kept.file a
 plain_numbers_lem bytes a h kept = subst (Numbers kept.file) (told (sym (kept_accepted bytes kept) ∙ h)) (plain bytes kept)
   where
-    told : {a b : Accepted} → accepted a ≡ accepted b → a ≡ b
+    told : {a b : Accepted} → ◌≡◌ {A = PayrollAnswer} (Ok a) (Ok b) → a ≡ b
     told e = cc

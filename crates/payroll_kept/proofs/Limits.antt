@@ -8,10 +8,10 @@ use native.Mathlib.Omega.{arith}
 use lib.ListN.{length, length-map}
 use lib.Dec.{lit≤}
 use borrow.Author.Tests.{ne_eqb, le-ltb}
+use Rattle.refusal.specs.Fault.{Judged, at}
+use Rattle.std.specs.Prelude.{Ok, Err}
 use Rattle.refusal.specs.declared.Cause.{Cause}
 use Rattle.refusal.specs.declared.Cause.TheVariants.{TrailerDisagrees}
-use Rattle.refusal.specs.declared.Fault.{Fault}
-use Rattle.refusal.specs.declared.Fault.TheVariants.{Nothing, At}
 use Rattle.refusal.specs.declared.Refusal.{Refusal}
 use Rattle.refusal.specs.Rules.{Rule, first_broken, all_hold}
 use Rattle.refusal.proofs.Faults.{not_both}
@@ -24,7 +24,6 @@ use Rattle.first_fault.specs.InTurn.{piece, records_in, ComesBehind}
 use Rattle.first_fault.proofs.InTurn.{comes_first}
 use Rattle.payroll_record.specs.declared.kind.Kind.{Kind}
 use Rattle.payroll_record.specs.declared.kind.Kind.TheVariants.{BatchTrailer, FileTrailer}
-use Rattle.payroll_record.specs.declared.kind.KindFound.TheVariants.{Known}
 use Rattle.payroll_record.specs.Kind.{kind_of}
 use Rattle.payroll_record.specs.Field.{field, digit_rules, number_in, number_rules}
 use Rattle.payroll_record.proofs.Fields.{read, number_below}
@@ -55,7 +54,7 @@ due_rows (d ∷ ds) es r =
 
 -- a field of digits that should hold a number which is too large for it
 too_large : (c : Cause) (first last : ℕ) (r : List ℕ) (x : ℕ) (others : List Rule) → last - (first - 1) ≤ 18 → DigitsAt first last r →
-    10 ^ (last - (first - 1)) ≤ x → first_broken (number_rules c first (number_in (field first last) r) x ++ others) ≡ At c first
+    10 ^ (last - (first - 1)) ≤ x → first_broken (number_rules c first (number_in (field first last) r) x ++ others) ≡ at c first
 unfolding first_broken number_rules
 too_large c first last r x others h d large =
     let f = field first last in
@@ -69,7 +68,7 @@ passed : (a b : List Rule) → NoFault a → first_broken (a ++ b) ≡ first_bro
 passed a b h = in_a_row a b ∙ rw h
 
 -- the rules of a piece, parted behind the first of the numbers that are due in it
-module _ (st : Running) (kind : Kind) (p : List ℕ) (is : kind_of (without_last p) ≡ Known kind) where
+module _ (st : Running) (kind : Kind) (p : List ℕ) (is : kind_of (without_last p) ≡ Ok kind) where
   parted : (ds es : List Due) → due_of kind st ≡ ds ++ es →
       first_broken (next_rules st (piece p)) ≡
       first_broken (as_far_as ds st kind p ++ (due_rules es (numbers_in es (without_last p)) ++ (limits_of kind st ++ behind_due kind (without_last p))))
@@ -88,7 +87,7 @@ module _ (st : Running) (kind : Kind) (p : List ℕ) (is : kind_of (without_last
 
 -- a piece behind others that breaks a rule: the file is refused there
 module _ (file : List ℕ) (earlier : List (List ℕ)) (p : List ℕ) (comes : ComesBehind rules_behind file earlier p) where
-  refused_there : (cause : Cause) (column : ℕ) → first_broken (next_rules (plain_state (records_in earlier)) (piece p)) ≡ At cause column →
+  refused_there : (cause : Cause) (column : ℕ) → first_broken (next_rules (plain_state (records_in earlier)) (piece p)) ≡ at cause column →
       payroll_row (check_of file) ≡ refused_row (record { cause = cause; «record» = stayed (suc (length earlier)); column = column })
   unfolding comes_first
   refused_there cause column f =
@@ -103,18 +102,19 @@ module _ (file : List ℕ) (earlier : List (List ℕ)) (p : List ℕ) (comes : C
       (refusal : Refusal) × (payroll_row (check_of file) ≡ refused_row refusal) × (refusal.«record» ≡ stayed (suc (length earlier)))
   refused_anyhow broken = by (first_broken (next_rules (plain_state (records_in earlier)) (piece p))) refl
     where
-      by : (fault : Fault) → first_broken (next_rules (plain_state (records_in earlier)) (piece p)) ≡ fault →
+      by : (fault : Judged) → first_broken (next_rules (plain_state (records_in earlier)) (piece p)) ≡ fault →
           (refusal : Refusal) × (payroll_row (check_of file) ≡ refused_row refusal) × (refusal.«record» ≡ stayed (suc (length earlier)))
-      by Nothing f = absurd (broken f)
-      by (At cause column) f = (record { cause = cause; «record» = stayed (suc (length earlier)); column = column }, refused_there cause column f, refl)
+      by (Ok none) f = absurd (broken f)
+      by (Err fault) f =
+          (record { cause = fault.cause; «record» = stayed (suc (length earlier)); column = fault.column }, refused_there fault.cause fault.column f, refl)
 
 -- what makes a trailer refused by 11 at a column at the latest: that is its first fault where the rules before it hold, and it is never without a fault
 record Broken (column : ℕ) (before : List Rule) (st : Running) (p : List ℕ) : Type 0 where
-  first : all_hold before ≡ true → first_broken (next_rules st (piece p)) ≡ At TrailerDisagrees column
+  first : all_hold before ≡ true → first_broken (next_rules st (piece p)) ≡ at TrailerDisagrees column
   never : NoFault (next_rules st (piece p)) → ⊥
 
 -- a number that is due and too large for its field
-due_broken : (st : Running) (kind : Kind) (p : List ℕ) → kind_of (without_last p) ≡ Known kind → (ds es : List Due) (first last n : ℕ) →
+due_broken : (st : Running) (kind : Kind) (p : List ℕ) → kind_of (without_last p) ≡ Ok kind → (ds es : List Due) (first last n : ℕ) →
     due_of kind st ≡ ds ++ (due TrailerDisagrees first last n ∷ es) → last - (first - 1) ≤ 18 → 10 ^ (last - (first - 1)) ≤ n →
     Broken first (as_far_as ds st kind p ++ digit_rules (field first last) (without_last p)) st p
 unfolding due_rules
@@ -139,13 +139,13 @@ due_broken st kind p is ds es first last n e h large =
     }
 
 -- an amount over the whole file that is too large, behind all fields of the file trailer
-amount_broken : (st : Running) (p : List ℕ) → kind_of (without_last p) ≡ Known FileTrailer → 10 ^ 19 ≤ st.amount → Broken 0 (before_amount st p) st p
+amount_broken : (st : Running) (p : List ℕ) → kind_of (without_last p) ≡ Ok FileTrailer → 10 ^ 19 ≤ st.amount → Broken 0 (before_amount st p) st p
 unfolding first_broken due_rules
 amount_broken st p is large =
     let front = before_amount st p in
     let limits = limits_of FileTrailer st in
     let row : first_broken (next_rules st (piece p)) ≡ first_broken (front ++ limits) = parted st FileTrailer p is (due_of FileTrailer st) [] refl in
-    let over : first_broken limits ≡ At TrailerDisagrees 0 = rw (le-ltb st.amount (10 ^ 19) large) in
+    let over : first_broken limits ≡ at TrailerDisagrees 0 = rw (le-ltb st.amount (10 ^ 19) large) in
     record {
       first = λ hold. row ∙ passed front limits (none_broken front hold) ∙ over;
       never = λ none. not_both (sym ((none_in_a_row front limits).0 (sym row ∙ none)).1 ∙ over);
@@ -154,7 +154,7 @@ amount_broken st p is large =
 module _ (file : List ℕ) (earlier : List (List ℕ)) where
   -- a trailer behind pieces of a file
   refused_at_lem : (column : ℕ) (kind : Kind) (before : Running → List ℕ → List Rule) →
-      ((p : List ℕ) → kind_of (without_last p) ≡ Known kind → Broken column (before (plain_state (records_in earlier)) p) (plain_state (records_in earlier)) p) →
+      ((p : List ℕ) → kind_of (without_last p) ≡ Ok kind → Broken column (before (plain_state (records_in earlier)) p) (plain_state (records_in earlier)) p) →
       RefusedAt column kind before file earlier
   refused_at_lem column kind before broken =
       record {

@@ -5,11 +5,11 @@ use mathlib.Core.Path.{◌≡◌, refl}
 use mathlib.Core.List.{List}
 use mathlib.Core.Bool.{true}
 use lib.Dec.{lit≤}
-use Rattle.refusal.specs.declared.Fault.TheVariants.{Nothing}
+use Rattle.refusal.specs.Fault.{nothing}
+use Rattle.std.specs.Prelude.{Ok}
 use Rattle.text.specs.Part.{positions}
 use Rattle.payroll_record.specs.declared.kind.Kind.{Kind}
 use Rattle.payroll_record.specs.declared.kind.Kind.TheVariants.{FileHeader, BatchHeader, SegmentA, SegmentB, SegmentZ, BatchTrailer, FileTrailer}
-use Rattle.payroll_record.specs.declared.kind.KindFound.TheVariants.{Known}
 use Rattle.payroll_record.specs.Detail.{payment_rules}
 use Rattle.payroll_record.specs.Reading.{read_as}
 use Rattle.payroll_record.proofs.Fields.{Writes}
@@ -43,7 +43,7 @@ pub record Next (kind : Kind) (st : Running) (r : List ℕ) : Type 0 where
 
 -- it is found to be of its kind, and the rules have no fault
 pub record NoneBroken (kind : Kind) (st : Running) (r : List ℕ) : Type 0 where
-  pub is : Found (Known kind) r
+  pub is : Found (Ok kind) r
   pub none : NoFault (rules_of (cap st) (read_as kind r))
 
 -- what every record has in front, and its kind
@@ -54,7 +54,7 @@ written_holds : (first last : ℕ) {n : ℕ} {r : List ℕ} → Writes (position
 written_holds first last w = record { digits = w.digits; number = w.value }
 
 module _ (r : List ℕ) {n : ℕ} where
-  of_kind : (kind : Kind) → Found (Known kind) r → FrontRight r → Holds 4 7 n r → RecordOf (name_of kind) n r
+  of_kind : (kind : Kind) → Found (Ok kind) r → FrontRight r → Holds 4 7 n r → RecordOf (name_of kind) n r
   of_kind kind is front number =
       record {
         wide = is.wide;
@@ -64,14 +64,14 @@ module _ (r : List ℕ) {n : ℕ} where
         batch_number = number;
       }
 
-  is_found : (kind : Kind) → SegmentIs kind (positions 14 14 r) → RecordOf (name_of kind) n r → Found (Known kind) r
+  is_found : (kind : Kind) → SegmentIs kind (positions 14 14 r) → RecordOf (name_of kind) n r → Found (Ok kind) r
   is_found kind segment k =
       record { wide = k.wide; kind = named_kind kind (positions 8 8 r) (positions 14 14 r) (record { kind_is = k.named; segment_is = segment }) }
 
   front_is : (kind : Kind) → RecordOf (name_of kind) n r → FrontRight r
   front_is kind k = record { plain = k.plain; bank = holds_written k.bank }
 
-segment_of_lem : (kind : Kind) (r : List ℕ) → Found (Known kind) r → SegmentIs kind (positions 14 14 r)
+segment_of_lem : (kind : Kind) (r : List ℕ) → Found (Ok kind) r → SegmentIs kind (positions 14 14 r)
 segment_of_lem kind r is = (kind_named_lem (positions 8 8 r) (positions 14 14 r) kind is.kind).segment_is
 
 -- no fault: it keeps the rules
@@ -105,7 +105,7 @@ is_next SegmentA st r b =
       };
     }
 is_next SegmentB st r b =
-    let h = (detail_rules st r SegmentB Nothing 0 (nothing_found st r)).0 b.none in
+    let h = (detail_rules st r SegmentB nothing 0 (nothing_found st r)).0 b.none in
     record {
       place = h.0;
       kept = record {
@@ -115,7 +115,7 @@ is_next SegmentB st r b =
       };
     }
 is_next SegmentZ st r b =
-    let h = (detail_rules st r SegmentZ Nothing 0 (nothing_found st r)).0 b.none in
+    let h = (detail_rules st r SegmentZ nothing 0 (nothing_found st r)).0 b.none in
     record {
       place = h.0;
       kept = record {
@@ -185,7 +185,7 @@ none_broken SegmentB st r n =
     record {
       is = is_found r SegmentB k.segment_named_lem k.kind;
       none =
-          (detail_rules st r SegmentB Nothing 0 (nothing_found st r)).1
+          (detail_rules st r SegmentB nothing 0 (nothing_found st r)).1
           (n.place, (front_is r SegmentB k.kind, ((k.kind.batch_number, (k.detail_number, tt)), tt)));
     }
 none_broken SegmentZ st r n =
@@ -193,7 +193,7 @@ none_broken SegmentZ st r n =
     record {
       is = is_found r SegmentZ k.segment_named_lem k.kind;
       none =
-          (detail_rules st r SegmentZ Nothing 0 (nothing_found st r)).1
+          (detail_rules st r SegmentZ nothing 0 (nothing_found st r)).1
           (n.place, (front_is r SegmentZ k.kind, ((k.kind.batch_number, (k.detail_number, tt)), tt)));
     }
 none_broken BatchTrailer st r n =

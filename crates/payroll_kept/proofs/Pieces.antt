@@ -3,10 +3,11 @@ use Prim.Native.Nat.{ℕ}
 use mathlib.Core.Path.{◌≡◌, refl, sym, ◌∙◌, ap}
 use mathlib.Core.List.{List, [], ◌∷◌, ◌++◌, map}
 use mathlib.Core.Bool.{Bool, true, false, cond, not, ◌||◌}
+use Rattle.payroll_file.specs.Answer.{PayrollAnswer}
+use Rattle.refusal.specs.Fault.{Judged, nothing, at}
+use Rattle.std.specs.Prelude.{Ok, Err}
 use Rattle.refusal.specs.declared.Cause.{Cause}
 use Rattle.refusal.specs.declared.Cause.TheVariants.{NoLineEnd, BytesAfterTheEnd}
-use Rattle.refusal.specs.declared.Fault.{Fault}
-use Rattle.refusal.specs.declared.Fault.TheVariants.{Nothing, At}
 use Rattle.refusal.specs.declared.Refusal.{Refusal}
 use Rattle.refusal.specs.Rules.{rule_at, first_broken}
 use Rattle.text.specs.Literal.{same_bytes}
@@ -16,8 +17,6 @@ use Rattle.payroll_record.specs.Reading.{reading_of}
 use Rattle.payroll_run.specs.declared.stage.Stage.{Stage}
 use Rattle.payroll_run.specs.declared.stage.Stage.TheVariants.{Start, BetweenBatches, InBatch, BehindA, BehindB, Ended, Refused}
 use Rattle.payroll_run.specs.declared.running.Running.{Running}
-use Rattle.payroll_file.specs.declared.answer.PayrollAnswer.{PayrollAnswer}
-use Rattle.payroll_file.specs.declared.answer.PayrollAnswer.TheVariants.{Refused as refused}
 use Rattle.payroll_run.specs.State.{refusal_at}
 use Rattle.payroll_step.specs.Step.{behind_or_refused}
 use Rattle.payroll_file.specs.PayrollFile.{unended_at, unended_of, line_of, lines_of, accepted, ended_of, cut_short_of, end_at, end_of}
@@ -52,9 +51,9 @@ piece_judged st p going = by (ends_in_cr p)
     by false = unended st.stage refl
 
 -- the rest: its first fault is the answer
-abbrev pub answered : Running → Fault → PayrollAnswer
-answered st Nothing = accepted st
-answered st (At cause column) = refused (refusal_at cause column st)
+abbrev pub answered : Running → Judged → PayrollAnswer
+answered st (Ok none) = accepted st
+answered st (Err fault) = Err (refusal_at fault.cause fault.column st)
 
 pub rest_answered : (st : Running) (left : List ℕ) → Going st → end_of st left ≡ answered st (first_broken (next_rules st (rest left)))
 unfolding first_broken end_at ended_of cut_short_of
@@ -82,14 +81,14 @@ rest_answered st (b ∷ s) going = by st.stage (same_bytes (b ∷ s) (26 ∷ [])
     by (Refused x) t q e = absurd (going x q)
 
 -- a piece that keeps the rules leaves a run that is not refused
-pub piece_goes_on : (st : Running) (p : List ℕ) → Going st → first_broken (next_rules st (piece p)) ≡ Nothing → Going (line_of st p)
+pub piece_goes_on : (st : Running) (p : List ℕ) → Going st → first_broken (next_rules st (piece p)) ≡ nothing → Going (line_of st p)
 unfolding behind_or_refused
 piece_goes_on st p going f x q =
     let is = piece_judged st p going ∙ ap (behind_or_refused st (reading_of (without_last p))) f in
     goes_on st going (reading_of (without_last p)) x (sym (ap (λ next. next.stage) is) ∙ q)
 
 -- and one that breaks them a refused one
-pub piece_stops : (st : Running) (p : List ℕ) (cause : Cause) (column : ℕ) → Going st → first_broken (next_rules st (piece p)) ≡ At cause column →
+pub piece_stops : (st : Running) (p : List ℕ) (cause : Cause) (column : ℕ) → Going st → first_broken (next_rules st (piece p)) ≡ at cause column →
     (line_of st p).stage ≡ Refused (refusal_at cause column st)
 unfolding behind_or_refused
 piece_stops st p cause column going f =
@@ -106,15 +105,15 @@ unfolding finished lines_of
 finished_pieces st [] xs = refl
 finished_pieces st (p ∷ ps) xs = finished_pieces (line_of st p) ps xs
 
-finished_refused : (st : Running) (x : Refusal) (xs : List Next) → st.stage ≡ Refused x → finished st xs ≡ refused x
+finished_refused : (st : Running) (x : Refusal) (xs : List Next) → st.stage ≡ Refused x → finished st xs ≡ Err x
 unfolding finished end_at
 finished_refused st x [] q = ap (λ s. end_at s st []) q
 finished_refused st x (piece p ∷ xs) q = ap (λ next. finished next xs) (line_same st x q p) ∙ finished_refused st x xs q
 finished_refused st x (rest s ∷ xs) q = ap (λ g. end_at g st s) q
 
 -- what comes next breaks a rule: the answer is the first one's refusal
-pub next_refused : (st : Running) (here : Next) (later : List Next) (cause : Cause) (column : ℕ) → Going st → first_broken (next_rules st here) ≡ At cause column →
-    finished st (here ∷ later) ≡ refused (refusal_at cause column st)
+pub next_refused : (st : Running) (here : Next) (later : List Next) (cause : Cause) (column : ℕ) → Going st → first_broken (next_rules st here) ≡ at cause column →
+    finished st (here ∷ later) ≡ Err (refusal_at cause column st)
 unfolding finished
 next_refused st (piece p) later cause column going f =
     finished_refused (line_of st p) (refusal_at cause column st) later (piece_stops st p cause column going f)

@@ -5,6 +5,8 @@ use mathlib.Core.Path.{◌≡◌, refl, sym, ◌∙◌, ap}
 use mathlib.Core.List.{List, [], ◌∷◌}
 use mathlib.Core.Bool.{Bool, true, false, cond, false≢true}
 use native.Mathlib.Omega.{arith}
+use Rattle.payroll_file.specs.Answer.{PayrollAnswer}
+use Rattle.std.specs.Prelude.{Ok, Err}
 use Rattle.refusal.specs.declared.Refusal.{Refusal}
 use Rattle.text.specs.Literal.{same_bytes}
 use Rattle.text.proofs.Literals.{same_equal}
@@ -16,8 +18,6 @@ use Rattle.payroll_run.specs.declared.stage.Stage.{Stage}
 use Rattle.payroll_run.specs.declared.stage.Stage.TheVariants.{Start, BetweenBatches, InBatch, BehindA, BehindB, Ended, Refused}
 use Rattle.payroll_run.specs.declared.running.Running.{Running}
 use Rattle.payroll_file.specs.declared.answer.Accepted.{Accepted}
-use Rattle.payroll_file.specs.declared.answer.PayrollAnswer.{PayrollAnswer}
-use Rattle.payroll_file.specs.declared.answer.PayrollAnswer.TheVariants.{Accepted as accepted, Refused as refused}
 use Rattle.payroll_run.specs.Stage.{placed}
 use Rattle.payroll_step.specs.Step.{took_at}
 use Rattle.payroll_file.specs.PayrollFile.{unended_at, unended_of, line_of, lines_of, ended_of, cut_short_of, end_at, end_of}
@@ -27,10 +27,10 @@ use Rattle.payroll_kept.proofs.Steps.{took_record, stepped}
 
 -- a run over pieces and a rest is accepted
 abbrev pub EndsAccepted : Running → List (List ℕ) → List ℕ → Accepted → Type 0
-EndsAccepted st ps rest a = end_of (lines_of st ps) rest ≡ accepted a
+EndsAccepted st ps rest a = end_of (lines_of st ps) rest ≡ Ok a
 
 -- a refusal is not accepted
-never : {A : Type 0} {x : Refusal} {a : Accepted} → refused x ≡ accepted a → A
+never : {A : Type 0} {x : Refusal} {a : Accepted} → ◌≡◌ {A = PayrollAnswer} (Err x) (Ok a) → A
 never e = absurd (let z : ◌≡◌ {A = ℕ} 0 1 = cc in omega arith)
 
 -- bytes without a line end are refused, at each stage
@@ -63,7 +63,7 @@ module _ (st : Running) (x : Refusal) (q : st.stage ≡ Refused x) where
 pub alive : (st : Running) (ps : List (List ℕ)) (rest : List ℕ) (a : Accepted) → EndsAccepted st ps rest a → Going st
 unfolding end_at
 alive st ps rest a h x q =
-    let s : end_of (lines_of st ps) rest ≡ refused x = ap (λ s. end_of s rest) (lines_same st x q ps) ∙ ap (λ s. end_at s st rest) q in
+    let s : end_of (lines_of st ps) rest ≡ Err x = ap (λ s. end_of s rest) (lines_same st x q ps) ∙ ap (λ s. end_at s st rest) q in
     never (sym s ∙ h)
 
 -- each piece is a record with its CR, that the run takes
@@ -83,13 +83,13 @@ piece st p ps rest a h = by (ends_in_cr p) refl h
     by false e h = absurd (unended_refused st.stage st refl (alive (unended_of st) ps rest a h))
 
 -- where a kind may stand, the file does not end
-cut_short : (st : Running) (rest : List ℕ) (a : Accepted) → cut_short_of st rest ≡ accepted a → ⊥
+cut_short : (st : Running) (rest : List ℕ) (a : Accepted) → cut_short_of st rest ≡ Ok a → ⊥
 unfolding cut_short_of
 cut_short st [] a h = never h
 cut_short st (b ∷ s) a h = never h
 
 early : (s : Stage) (returned : Bool) (kind : Kind) (st : Running) (rest : List ℕ) (a : Accepted) → placed s returned kind ≡ true →
-    end_at s st rest ≡ accepted a → ⊥
+    end_at s st rest ≡ Ok a → ⊥
 unfolding end_at
 early Start t kind st rest a p h = cut_short st rest a h
 early BetweenBatches t kind st rest a p h = cut_short st rest a h
@@ -104,12 +104,12 @@ unfolding lines_of
 too_early kind st rest a place h = early st.stage st.is_return kind st rest a place h
 
 -- and behind the file trailer stands one byte 1A
-ended_mark : (st : Running) (rest : List ℕ) (a : Accepted) → ended_of st rest ≡ accepted a → rest ≡ 26 ∷ []
+ended_mark : (st : Running) (rest : List ℕ) (a : Accepted) → ended_of st rest ≡ Ok a → rest ≡ 26 ∷ []
 unfolding ended_of
 ended_mark st [] a h = never h
 ended_mark st (b ∷ s) a h = by (same_bytes (b ∷ s) (26 ∷ [])) _ _ refl h
   where
-    by : (t : Bool) (y : PayrollAnswer) (x : Refusal) → same_bytes (b ∷ s) (26 ∷ []) ≡ t → cond t y (refused x) ≡ accepted a → b ∷ s ≡ 26 ∷ []
+    by : (t : Bool) (y : PayrollAnswer) (x : Refusal) → same_bytes (b ∷ s) (26 ∷ []) ≡ t → cond t y (Err x) ≡ Ok a → b ∷ s ≡ 26 ∷ []
     by true y x e h = same_equal (b ∷ s) (26 ∷ []) e
     by false y x e h = never h
 

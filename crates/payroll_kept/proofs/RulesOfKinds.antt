@@ -6,9 +6,8 @@ use mathlib.Core.Logic.{◌↔◌}
 use mathlib.Core.List.{List, [], ◌∷◌, ◌++◌}
 use mathlib.Core.Bool.{true}
 use lib.Dec.{lit≤}
+use Rattle.refusal.specs.Fault.{Judged, nothing}
 use Rattle.refusal.specs.declared.Cause.TheVariants.{KindNotAllowedHere, SequenceWrong, TrailerDisagrees}
-use Rattle.refusal.specs.declared.Fault.{Fault}
-use Rattle.refusal.specs.declared.Fault.TheVariants.{Nothing}
 use Rattle.refusal.specs.Rules.{Rule, first_broken}
 use Rattle.text.specs.Part.{positions}
 use Rattle.totals.specs.Sum.{top}
@@ -33,7 +32,7 @@ use Rattle.payroll_kept.proofs.Plain.{cap, cap_more}
 
 module _ (st : Running) (r : List ℕ) where
   -- its place, what is in front, the numbers that are due, and what is behind them
-  judged_rules_lem : {X Y Z : Type 0} (kind : Kind) (front : Fault) (dues : List Due) (behind : List Rule) → (NoFault (found_rules front) ↔ X) →
+  judged_rules_lem : {X Y Z : Type 0} (kind : Kind) (front : Judged) (dues : List Due) (behind : List Rule) → (NoFault (found_rules front) ↔ X) →
       (NoFault (due_rules dues (numbers_in dues r)) ↔ Y) → (NoFault behind ↔ Z) →
       (NoFault (judged_rules (cap st) kind front dues (numbers_in dues r) behind) ↔ (placed st.stage st.is_return kind ≡ true) × (X × (Y × Z)))
   judged_rules_lem kind front dues behind p q s =
@@ -72,7 +71,7 @@ module _ (st : Running) (r : List ℕ) where
       judged_rules_lem BatchHeader _ (due_of BatchHeader (cap st)) _ front (due_row _ [] (st.batches + 1) next (lit≤ tt) none_due)
       (at_most_holds SequenceWrong 4 _ (st.batches + 1) next)
 
-  pub detail_rules : {X : Type 0} (kind : Kind) (rest : Fault) (paid : ℕ) → (NoFault (found_rules rest) ↔ X) →
+  pub detail_rules : {X : Type 0} (kind : Kind) (rest : Judged) (paid : ℕ) → (NoFault (found_rules rest) ↔ X) →
       (NoFault (rules_of (cap st) (detail (detail_of kind rest paid r))) ↔
       (placed st.stage st.is_return kind ≡ true) × (FrontRight r × ((Holds 4 7 st.batches r × (Holds 9 13 (st.batch.details + 1) r × Unit {0})) × X)))
   unfolding rules_of
@@ -80,7 +79,7 @@ module _ (st : Running) (r : List ℕ) where
       judged_rules_lem kind _ (due_in_detail (cap st)) _ front
       (due_row _ _ st.batches refl (lit≤ tt) (due_row _ [] (st.batch.details + 1) (cap_more st.batch.details 1) (lit≤ tt) none_due)) p
 
-  pub nothing_found : NoFault (found_rules Nothing) ↔ Unit {0}
+  pub nothing_found : NoFault (found_rules nothing) ↔ Unit {0}
   unfolding found_rules
   nothing_found = none
 

@@ -6,8 +6,8 @@ use mathlib.Core.List.{List, [], ◌∷◌, ◌++◌}
 use native.Mathlib.Nat.{add-zero, zero-add}
 use native.Mathlib.Omega.{arith}
 use lib.ListN.{length, length-append}
-use Rattle.refusal.specs.declared.Fault.{Fault}
-use Rattle.refusal.specs.declared.Fault.TheVariants.{Nothing, At}
+use Rattle.refusal.specs.Fault.{Judged}
+use Rattle.std.specs.Prelude.{Ok, Err}
 use Rattle.refusal.specs.declared.Refusal.{Refusal}
 use Rattle.refusal.specs.Rules.{first_broken}
 use Rattle.refusal.proofs.Rules.{all_hold_lem}
@@ -48,8 +48,8 @@ next_number_lem n st w = ap next_number w.came.is ∙ omega (arith, few_records 
 line_taken : (k n : ℕ) (st : Running) (p : List ℕ) → k ≤ suc n → Stands k n st → Stands k (suc n) (line_of st p)
 line_taken k n st p low (inl w) = by (first_broken (next_rules st (piece p))) refl
   where
-    by : (fault : Fault) → first_broken (next_rules st (piece p)) ≡ fault → Stands k (suc n) (line_of st p)
-    by Nothing f =
+    by : (fault : Judged) → first_broken (next_rules st (piece p)) ≡ fault → Stands k (suc n) (line_of st p)
+    by (Ok none) f =
         let more = w.seen ++ (without_last p ∷ []) in
         inl
         (record {
@@ -57,11 +57,11 @@ line_taken k n st p low (inl w) = by (first_broken (next_rules st (piece p))) re
           counts = omega (arith, length-append w.seen (without_last p ∷ []), w.counts);
           came = came_one w.seen st p w.came (all_hold_lem (next_rules st (piece p)) f);
         })
-    by (At cause column) f =
+    by (Err fault) f =
         inr
         (record {
-          refusal = refusal_at cause column st;
-          at_stage = piece_stops st p cause column w.came.going f;
+          refusal = refusal_at fault.cause fault.column st;
+          at_stage = piece_stops st p fault.cause fault.column w.came.going f;
           from = omega (arith, next_number_lem n st w);
           up_to_lem = omega (arith, next_number_lem n st w);
         })

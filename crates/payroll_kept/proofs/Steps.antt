@@ -6,16 +6,15 @@ use mathlib.Core.Bool.{Bool, true, false, cond, false≢true}
 use lib.ListN.{length}
 use lib.Dec.{eqb}
 use borrow.Author.Tests.{eqb-true}
-use Rattle.refusal.specs.declared.Fault.{Fault}
-use Rattle.refusal.specs.declared.Fault.TheVariants.{Nothing, At}
+use Rattle.refusal.specs.Fault.{Judged, nothing}
+use Rattle.std.specs.Prelude.{Ok, Err}
 use Rattle.refusal.specs.Rules.{first_broken}
 use Rattle.refusal.proofs.Faults.{not_both}
 use Rattle.payroll_record.specs.declared.kind.Kind.{Kind}
-use Rattle.payroll_record.specs.declared.kind.KindFound.{KindFound}
-use Rattle.payroll_record.specs.declared.kind.KindFound.TheVariants.{Known, UnknownKind, UnknownSegment}
+use Rattle.payroll_record.specs.declared.kind.NoKind.TheVariants.{UnknownKind, UnknownSegment}
 use Rattle.payroll_record.specs.declared.reading.Reading.{Reading}
 use Rattle.payroll_record.specs.declared.reading.Reading.TheVariants.{WrongWidth as wrong_width}
-use Rattle.payroll_record.specs.Kind.{kind_of}
+use Rattle.payroll_record.specs.Kind.{kind_of, KindFound}
 use Rattle.payroll_record.specs.Reading.{read_as, read_found, reading_of}
 use Rattle.payroll_record.proofs.NoFault.{NoFault}
 use Rattle.payroll_record.proofs.Readings.{as_found}
@@ -49,7 +48,7 @@ pub step : (kind : Kind) (st : Running) (r : List ℕ) → Next kind st r → to
 unfolding behind_or_refused read_found
 step kind st r n =
     let b = none_broken kind st r n in
-    ap (took_of (cap st)) (as_found r (Known kind) b.is) ∙
+    ap (took_of (cap st)) (as_found r (Ok kind) b.is) ∙
     is_judged st.stage st.is_return kind (cap st) (read_as kind r) n.place ∙
     ap (behind_or_refused (cap st) (read_as kind r)) b.none ∙
     behind_is st kind r (amounts kind st r n.kept)
@@ -60,10 +59,10 @@ pub record Stepped (st : Running) (r : List ℕ) : Type 0 where
   pub next : Next kind st r
 
 module _ (st : Running) where
-  by_fault : (reading : Reading) (fault : Fault) → Going (behind_or_refused st reading fault) → fault ≡ Nothing
+  by_fault : (reading : Reading) (fault : Judged) → Going (behind_or_refused st reading fault) → fault ≡ nothing
   unfolding behind_or_refused
-  by_fault reading Nothing going = refl
-  by_fault reading (At cause column) going = absurd (going _ refl)
+  by_fault reading (Ok none) going = refl
+  by_fault reading (Err fault) going = absurd (going _ refl)
 
   judged : (reading : Reading) → Going (judged_of st reading) → NoFault (rules_of st reading)
   judged reading going = by_fault reading (first_broken (rules_of st reading)) going
@@ -83,8 +82,8 @@ unfolding rules_of read_found first_broken
 stepped st r going = by (eqb (length r) 240) (kind_of r) refl refl (by_stage (cap st) st.stage (reading_of r) refl going)
   where
     by : (w : Bool) (f : KindFound) → eqb (length r) 240 ≡ w → kind_of r ≡ f → NoFault (rules_of (cap st) (cond w (read_found f r) wrong_width)) → Stepped st r
-    by true (Known kind) wide is none =
+    by true (Ok kind) wide is none =
         record { kind = kind; next = is_next kind st r (record { is = record { wide = eqb-true (length r) 240 wide; kind = is }; none = none }) }
-    by true UnknownKind wide is none = absurd (not_both (sym none))
-    by true UnknownSegment wide is none = absurd (not_both (sym none))
+    by true (Err UnknownKind) wide is none = absurd (not_both (sym none))
+    by true (Err UnknownSegment) wide is none = absurd (not_both (sym none))
     by false f wide is none = absurd (not_both (sym none))

@@ -5,11 +5,10 @@ use mathlib.Core.List.{List, [], ◌∷◌, ◌++◌, foldl-append, append-nil}
 use mathlib.Core.Bool.{Bool, true, false, cond, false≢true}
 use native.Mathlib.Omega.{arith}
 use lib.ListN.{length, length-append}
+use Rattle.std.specs.Prelude.{Ok}
 use Rattle.payroll_record.specs.declared.kind.Kind.{Kind}
 use Rattle.payroll_record.specs.declared.kind.Kind.TheVariants.{FileHeader, BatchHeader, SegmentA, SegmentB, SegmentZ, BatchTrailer, FileTrailer}
-use Rattle.payroll_record.specs.declared.kind.KindFound.{KindFound}
-use Rattle.payroll_record.specs.declared.kind.KindFound.TheVariants.{Known}
-use Rattle.payroll_record.specs.Kind.{kind_of}
+use Rattle.payroll_record.specs.Kind.{kind_of, KindFound}
 use Rattle.payroll_run.specs.declared.stage.Stage.{Stage}
 use Rattle.payroll_run.specs.declared.stage.Stage.TheVariants.{Start, BetweenBatches, InBatch, BehindA, BehindB, Ended, Refused}
 use Rattle.payroll_run.specs.declared.running.Batch.{Batch}
@@ -142,7 +141,7 @@ module _ (seen : List (List ℕ)) (r : List ℕ) where
       }
 
   -- and it is what the record makes of the run, kind by kind
-  made : (kind : Kind) → behind_plain kind (plain_of seen) r ≡ grown seen r (Known kind) (behind_plain kind (plain_of seen) r).is_return
+  made : (kind : Kind) → behind_plain kind (plain_of seen) r ≡ grown seen r (Ok kind) (behind_plain kind (plain_of seen) r).is_return
   made FileHeader = refl
   made BatchHeader = refl
   made SegmentA = refl
@@ -155,7 +154,7 @@ module _ (seen : List (List ℕ)) (r : List ℕ) where
 abbrev pub Begun : List (List ℕ) → Type 0
 Begun seen = stage_after seen ≡ Start → seen ≡ []
 
-not_start : (kind : Kind) (s : Stage) → stage_behind s (Known kind) ≡ Start → ⊥
+not_start : (kind : Kind) (s : Stage) → stage_behind s (Ok kind) ≡ Start → ⊥
 not_start FileHeader s q = clash (cc)
 not_start BatchHeader s q = clash (cc)
 not_start SegmentA s q = clash (cc)
@@ -164,8 +163,8 @@ not_start SegmentZ s q = clash (cc)
 not_start BatchTrailer s q = clash (cc)
 not_start FileTrailer s q = clash (cc)
 
-pub begun_behind : (seen : List (List ℕ)) (r : List ℕ) (kind : Kind) → kind_of r ≡ Known kind → Begun (seen ++ (r ∷ []))
-begun_behind seen r kind is q = absurd (not_start kind (stage_after seen) (sym (ap (λ st. st.stage) (grows seen r (Known kind) is)) ∙ q))
+pub begun_behind : (seen : List (List ℕ)) (r : List ℕ) (kind : Kind) → kind_of r ≡ Ok kind → Begun (seen ++ (r ∷ []))
+begun_behind seen r kind is q = absurd (not_start kind (stage_after seen) (sym (ap (λ st. st.stage) (grows seen r (Ok kind) is)) ∙ q))
 
 -- a file header stands there alone
 at_start : (s : Stage) (t : Bool) → placed s t FileHeader ≡ true → s ≡ Start
@@ -198,7 +197,7 @@ says_return (s ∷ seen) r BatchTrailer begun p = refl
 says_return (s ∷ seen) r FileTrailer begun p = refl
 
 -- so behind a record that may stand there the run stands at what is written out from it and those before it
-pub one_more : (seen : List (List ℕ)) (r : List ℕ) (kind : Kind) → kind_of r ≡ Known kind → Begun seen → placed (stage_after seen) (opens_return seen) kind ≡ true →
+pub one_more : (seen : List (List ℕ)) (r : List ℕ) (kind : Kind) → kind_of r ≡ Ok kind → Begun seen → placed (stage_after seen) (opens_return seen) kind ≡ true →
     behind_plain kind (plain_of seen) r ≡ plain_of (seen ++ (r ∷ []))
 one_more seen r kind is begun place =
-    made seen r kind ∙ ap (grown seen r (Known kind)) (says_return seen r kind begun place) ∙ sym (grows seen r (Known kind) is)
+    made seen r kind ∙ ap (grown seen r (Ok kind)) (says_return seen r kind begun place) ∙ sym (grows seen r (Ok kind) is)

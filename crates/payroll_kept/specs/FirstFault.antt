@@ -1,5 +1,5 @@
 -- THE FIRST FAULT: document 01's rules of a payroll record at its place, in one order, of which a refusal is the first that is broken.
-use Rattle.std.specs.Prelude.{ℕ, ◌≡◌, ◌↔◌, List, [], ◌∷◌, ◌++◌, Bool, true, false, not, ◌||◌, length, eqb}
+use Rattle.std.specs.Prelude.{ℕ, ◌≡◌, ◌↔◌, List, [], ◌∷◌, ◌++◌, Bool, true, false, not, ◌||◌, length, eqb, Ok, Err}
 use Prim.Native.String.{String}
 use Rattle.refusal.specs.declared.Cause.TheVariants.{KindUnknown, WrongWidth, BytesAfterTheEnd}
 use Rattle.refusal.specs.declared.Refusal.{Refusal}
@@ -9,9 +9,8 @@ use Rattle.text.specs.Literal.{ascii, same_bytes}
 use Rattle.text.specs.Part.{positions}
 use Rattle.payroll_record.specs.declared.kind.Kind.{Kind}
 use Rattle.payroll_record.specs.declared.kind.Kind.TheVariants.{FileHeader, BatchHeader, SegmentA, SegmentB, SegmentZ, BatchTrailer, FileTrailer}
-use Rattle.payroll_record.specs.declared.kind.KindFound.{KindFound}
-use Rattle.payroll_record.specs.declared.kind.KindFound.TheVariants.{Known, UnknownKind, UnknownSegment}
-use Rattle.payroll_record.specs.Kind.{kind_of}
+use Rattle.payroll_record.specs.declared.kind.NoKind.TheVariants.{UnknownKind, UnknownSegment}
+use Rattle.payroll_record.specs.Kind.{kind_of, KindFound}
 use Rattle.payroll_record.specs.Front.{front_rules}
 use Rattle.payroll_record.specs.FileHeader.{header_rules}
 use Rattle.payroll_record.specs.Detail.{payment_rules}
@@ -49,10 +48,10 @@ behind_due FileTrailer r = []
 
 -- of a record of a kind: the list, with the rules that look at the record alone themselves
 abbrev pub rules_as : KindFound → Running → List ℕ → List Rule
-rules_as (Known kind) st r =
+rules_as (Ok kind) st r =
     placed_rules st kind (in_front_of_due kind r) (due_of kind st) (numbers_in (due_of kind st) r) (limits_of kind st ++ behind_due kind r)
-rules_as UnknownKind st r = []
-rules_as UnknownSegment st r = []
+rules_as (Err UnknownKind) st r = []
+rules_as (Err UnknownSegment) st r = []
 
 -- whether the file trailer has come
 abbrev pub ended : Stage → Bool

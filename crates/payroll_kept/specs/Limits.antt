@@ -1,6 +1,6 @@
 -- WHERE A FIELD IS TOO SHORT: "Sums are whole numbers: one too large for 18 digits equals no trailer and is refused by 11"; "an amount over the whole file of
 -- 10^19 or more is refused by 11 at the file trailer, column 0, after its fields". A number that stays at the top of 64 bits is as large as either.
-use Rattle.std.specs.Prelude.{ℕ, suc, ◌^◌, ◌≤◌, ◌<◌, ◌≡◌, List, [], ◌∷◌, ◌++◌, true, length, eqb}
+use Rattle.std.specs.Prelude.{ℕ, suc, ◌^◌, ◌≤◌, ◌<◌, ◌≡◌, List, [], ◌∷◌, ◌++◌, true, length, eqb, Ok}
 use Rattle.refusal.specs.declared.Cause.TheVariants.{NoLineEnd, WrongWidth, TrailerDisagrees}
 use Rattle.refusal.specs.declared.Refusal.{Refusal}
 use Rattle.refusal.specs.Rules.{Rule, rule_at, all_hold}
@@ -9,7 +9,6 @@ use Rattle.lines.specs.Lines.{ends_in_cr, without_last}
 use Rattle.first_fault.specs.InTurn.{records_in, ComesBehind}
 use Rattle.payroll_record.specs.declared.kind.Kind.{Kind}
 use Rattle.payroll_record.specs.declared.kind.Kind.TheVariants.{BatchTrailer, FileTrailer}
-use Rattle.payroll_record.specs.declared.kind.KindFound.TheVariants.{Known}
 use Rattle.payroll_record.specs.Kind.{kind_of}
 use Rattle.payroll_record.specs.Field.{field, digit_rules}
 use Rattle.payroll_run.specs.declared.running.Running.{Running}
@@ -46,10 +45,10 @@ before_amount st p = as_far_as (due_of FileTrailer st) st FileTrailer p
 -- behind pieces of a file, a piece of a kind
 pub record RefusedAt (column : ℕ) (kind : Kind) (before : Running → List ℕ → List Rule) (file : List ℕ) (earlier : List (List ℕ)) : Type 0 where
   -- is refused, whatever it says,
-  pub in_any_case : (p : List ℕ) → ComesBehind rules_behind file earlier p → kind_of (without_last p) ≡ Known kind →
+  pub in_any_case : (p : List ℕ) → ComesBehind rules_behind file earlier p → kind_of (without_last p) ≡ Ok kind →
       (refusal : Refusal) × (payroll_row (check_of file) ≡ refused_row refusal) × (refusal.«record» ≡ stayed (suc (length earlier)))
   -- and by 11 at this column where the rules before that one hold
-  pub by_eleven : (p : List ℕ) → ComesBehind rules_behind file earlier p → kind_of (without_last p) ≡ Known kind → all_hold (before (plain_state (records_in earlier)) p) ≡ true →
+  pub by_eleven : (p : List ℕ) → ComesBehind rules_behind file earlier p → kind_of (without_last p) ≡ Ok kind → all_hold (before (plain_state (records_in earlier)) p) ≡ true →
       payroll_row (check_of file) ≡ refused_row (record { cause = TrailerDisagrees; «record» = stayed (suc (length earlier)); column = column })
 
 -- a number below the top is itself, and the top stands for all from there on

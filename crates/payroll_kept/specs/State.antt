@@ -1,13 +1,12 @@
 -- WHAT THE STATE IS behind records that keep the rules, in words of those records alone: all that the rules of what comes next take from it, and the numbers so far.
 -- Numbers that no field bounds stay at the top of 64 bits; the others are whole.
-use Rattle.std.specs.Prelude.{ℕ, suc, ◌+◌, min, ◌≡◌, Bool, true, false, cond, length}
+use Rattle.std.specs.Prelude.{ℕ, suc, ◌+◌, min, ◌≡◌, Bool, true, false, cond, length, Ok, Err}
 use mathlib.Core.List.{List, [], ◌∷◌, ◌++◌, foldl}
 use Rattle.totals.specs.Sum.{top}
 use Rattle.first_fault.specs.InTurn.{records_in}
 use Rattle.payroll_record.specs.declared.kind.Kind.TheVariants.{FileHeader, BatchHeader, SegmentA, SegmentB, SegmentZ, BatchTrailer, FileTrailer}
-use Rattle.payroll_record.specs.declared.kind.KindFound.{KindFound}
-use Rattle.payroll_record.specs.declared.kind.KindFound.TheVariants.{Known, UnknownKind, UnknownSegment}
-use Rattle.payroll_record.specs.Kind.{kind_of}
+use Rattle.payroll_record.specs.declared.kind.NoKind.TheVariants.{UnknownKind, UnknownSegment}
+use Rattle.payroll_record.specs.Kind.{kind_of, KindFound}
 use Rattle.payroll_record.specs.FileHeader.{is_return}
 use Rattle.payroll_run.specs.declared.stage.Stage.{Stage}
 use Rattle.payroll_run.specs.declared.stage.Stage.TheVariants.{Start, BetweenBatches, InBatch, BehindA, BehindB, Ended}
@@ -22,15 +21,15 @@ stayed n = min n top
 
 -- the stage behind a record of a kind; a kind that is not known keeps no rule, and leaves the stage as it is
 abbrev pub stage_behind : Stage → KindFound → Stage
-stage_behind stage (Known FileHeader) = BetweenBatches
-stage_behind stage (Known BatchHeader) = InBatch
-stage_behind stage (Known SegmentA) = BehindA
-stage_behind stage (Known SegmentB) = BehindB
-stage_behind stage (Known SegmentZ) = InBatch
-stage_behind stage (Known BatchTrailer) = BetweenBatches
-stage_behind stage (Known FileTrailer) = Ended
-stage_behind stage UnknownKind = stage
-stage_behind stage UnknownSegment = stage
+stage_behind stage (Ok FileHeader) = BetweenBatches
+stage_behind stage (Ok BatchHeader) = InBatch
+stage_behind stage (Ok SegmentA) = BehindA
+stage_behind stage (Ok SegmentB) = BehindB
+stage_behind stage (Ok SegmentZ) = InBatch
+stage_behind stage (Ok BatchTrailer) = BetweenBatches
+stage_behind stage (Ok FileTrailer) = Ended
+stage_behind stage (Err UnknownKind) = stage
+stage_behind stage (Err UnknownSegment) = stage
 
 -- so it is the last record's; before any record it is the start
 abbrev pub stage_after : List (List ℕ) → Stage
@@ -43,37 +42,37 @@ opens_return (r ∷ rs) = is_return r
 
 -- which records open a batch, which are details, and which are payments: "payments (A records)"
 abbrev pub opens_batch : KindFound → Bool
-opens_batch (Known FileHeader) = false
-opens_batch (Known BatchHeader) = true
-opens_batch (Known SegmentA) = false
-opens_batch (Known SegmentB) = false
-opens_batch (Known SegmentZ) = false
-opens_batch (Known BatchTrailer) = false
-opens_batch (Known FileTrailer) = false
-opens_batch UnknownKind = false
-opens_batch UnknownSegment = false
+opens_batch (Ok FileHeader) = false
+opens_batch (Ok BatchHeader) = true
+opens_batch (Ok SegmentA) = false
+opens_batch (Ok SegmentB) = false
+opens_batch (Ok SegmentZ) = false
+opens_batch (Ok BatchTrailer) = false
+opens_batch (Ok FileTrailer) = false
+opens_batch (Err UnknownKind) = false
+opens_batch (Err UnknownSegment) = false
 
 abbrev pub is_detail : KindFound → Bool
-is_detail (Known FileHeader) = false
-is_detail (Known BatchHeader) = false
-is_detail (Known SegmentA) = true
-is_detail (Known SegmentB) = true
-is_detail (Known SegmentZ) = true
-is_detail (Known BatchTrailer) = false
-is_detail (Known FileTrailer) = false
-is_detail UnknownKind = false
-is_detail UnknownSegment = false
+is_detail (Ok FileHeader) = false
+is_detail (Ok BatchHeader) = false
+is_detail (Ok SegmentA) = true
+is_detail (Ok SegmentB) = true
+is_detail (Ok SegmentZ) = true
+is_detail (Ok BatchTrailer) = false
+is_detail (Ok FileTrailer) = false
+is_detail (Err UnknownKind) = false
+is_detail (Err UnknownSegment) = false
 
 abbrev pub is_payment : KindFound → Bool
-is_payment (Known FileHeader) = false
-is_payment (Known BatchHeader) = false
-is_payment (Known SegmentA) = true
-is_payment (Known SegmentB) = false
-is_payment (Known SegmentZ) = false
-is_payment (Known BatchTrailer) = false
-is_payment (Known FileTrailer) = false
-is_payment UnknownKind = false
-is_payment UnknownSegment = false
+is_payment (Ok FileHeader) = false
+is_payment (Ok BatchHeader) = false
+is_payment (Ok SegmentA) = true
+is_payment (Ok SegmentB) = false
+is_payment (Ok SegmentZ) = false
+is_payment (Ok BatchTrailer) = false
+is_payment (Ok FileTrailer) = false
+is_payment (Err UnknownKind) = false
+is_payment (Err UnknownSegment) = false
 
 -- the records whose kind passes a test
 unfoldable pub those : (KindFound → Bool) → List (List ℕ) → List (List ℕ)

@@ -1,17 +1,13 @@
--- No text of an outcome has more than 256 bytes, and its words in a list have no more than 511.
+-- No verdict has more than 125 bytes.
 use Prim.Native.Nat.{◌≤◌}
 use native.Mathlib.Omega.{arith}
-use lib.Dec.{lit≤}
 use lib.ListN.{length, length-append}
+use Rattle.std.specs.Prelude.{Ok, Err}
 use Rattle.text.specs.Literal.{ascii}
 use Rattle.wording.proofs.Lengths.{line_short, refused_short}
-use Rattle.program.proofs.Sentences.{sentence_short}
 use Rattle.payroll_file.specs.declared.answer.Accepted.{Accepted as Numbers}
-use Rattle.payroll_file.specs.declared.answer.PayrollAnswer.TheVariants.{Accepted, Refused}
-use Rattle.payroll_program.specs.declared.outcome.PayrollOutcome.{PayrollOutcome}
-use Rattle.payroll_program.specs.declared.outcome.PayrollOutcome.TheVariants.{Answer, Mistake}
-use Rattle.payroll_program.specs.Listing.{words_of}
-use Rattle.payroll_program.specs.Verdict.{accepted_text, outcome_text}
+use Rattle.payroll_file.specs.Answer.{PayrollAnswer}
+use Rattle.payroll_program.specs.Verdict.{accepted_text, verdict_text}
 
 accepted_short : (a : Numbers) → length (accepted_text a) ≤ 125
 unfolding accepted_text
@@ -25,12 +21,6 @@ accepted_short a =
       line_short (ascii "AMOUNT") a.amount,
     ))
 
-pub outcome_short : (outcome : PayrollOutcome) → length (outcome_text outcome) ≤ 256
-outcome_short (Answer (Accepted numbers)) = omega (arith, accepted_short numbers)
-outcome_short (Answer (Refused refusal)) = omega (arith, refused_short refusal)
-outcome_short (Mistake mistake) = sentence_short mistake
-
-pub words_short : (outcome : PayrollOutcome) → length (words_of outcome) ≤ 511
-words_short (Answer (Accepted numbers)) = omega (arith, accepted_short numbers)
-words_short (Answer (Refused refusal)) = omega (arith, refused_short refusal)
-words_short (Mistake mistake) = lit≤ tt
+pub verdict_short : (answer : PayrollAnswer) → length (verdict_text answer) ≤ 125
+verdict_short (Ok numbers) = accepted_short numbers
+verdict_short (Err refusal) = omega (arith, refused_short refusal)

@@ -1,14 +1,13 @@
 -- What is printed of a payroll file: ACCEPTED and a line for each number of its answer, "records, batches, payments (A records) and amount", or one line
 -- of its refusal.
-use Rattle.std.specs.Prelude.{ℕ, List, [], ◌∷◌, ℤ, pos}
+use Rattle.std.specs.Prelude.{ℕ, List, [], ◌∷◌, Ok, Err}
 use Rattle.text.specs.Literal.{ascii}
 use Rattle.wording.specs.Line.{line_of, refused_line, joined}
+use Rattle.files.specs.declared.writing.Standard.{Standard}
 use Rattle.payroll_file.specs.declared.answer.Accepted.{Accepted as Numbers}
-use Rattle.payroll_file.specs.declared.answer.PayrollAnswer.{PayrollAnswer}
-use Rattle.payroll_file.specs.declared.answer.PayrollAnswer.TheVariants.{Accepted, Refused}
-use Rattle.program.specs.Sentence.{sentence_of}
-use Rattle.payroll_program.specs.declared.outcome.PayrollOutcome.{PayrollOutcome}
-use Rattle.payroll_program.specs.declared.outcome.PayrollOutcome.TheVariants.{Answer, Mistake}
+use Rattle.payroll_file.specs.Answer.{PayrollAnswer}
+use Rattle.program.specs.Outcome.{told_text, standard_of}
+use Rattle.payroll_program.specs.Outcome.{PayrollOutcome}
 
 unfoldable pub accepted_text : Numbers → List ℕ
 accepted_text a =
@@ -17,15 +16,13 @@ accepted_text a =
     line_of (ascii "AMOUNT") a.amount ∷ [])
 
 abbrev pub verdict_text : PayrollAnswer → List ℕ
-verdict_text (Accepted numbers) = accepted_text numbers
-verdict_text (Refused refusal) = refused_line refusal
+verdict_text (Ok numbers) = accepted_text numbers
+verdict_text (Err refusal) = refused_line refusal
 
 -- the verdict, or the mistake's sentence
 abbrev pub outcome_text : PayrollOutcome → List ℕ
-outcome_text (Answer answer) = verdict_text answer
-outcome_text (Mistake mistake) = sentence_of mistake
+outcome_text = told_text verdict_text
 
--- standard output is 1, standard error 2
-abbrev pub descriptor_of : PayrollOutcome → ℤ
-descriptor_of (Answer answer) = pos 1
-descriptor_of (Mistake mistake) = pos 2
+-- a verdict goes to standard output, a mistake to standard error
+abbrev pub descriptor_of : PayrollOutcome → Standard
+descriptor_of = standard_of

@@ -1,104 +1,55 @@
 // Many payroll files in one call: a line for each as it is checked, and the tally of all.
-ghost use Rattle.std.specs.Prelude.{◌-◌, ◌≤◌, ◌≡◌, length};
-ghost use Rattle.wording.specs.Put.{Puts};
-ghost use Rattle.file_list.specs.Line.{file_line};
+ghost use Rattle.std.specs.Prelude.{◌-◌};
 ghost use Rattle.file_list.specs.Listed.{ListedAll};
 ghost use Rattle.payroll_program.specs.Checked.{Checked};
 ghost use Rattle.payroll_program.specs.Listing.{said_of, words_of};
 
 use crate::outcome::PayrollOutcome;
 use crate::{check, verdict};
-use file_list::line;
+use file_list::list::Files;
 use file_list::listed::Listed;
-use file_list::tally::{Said, Tally};
-use files::writing;
-use files::writing::STDOUT;
-use payroll_file::answer::PayrollAnswer;
-use program::argument;
-use program::argument::Argument;
-use program::mistake::{Failed, Mistake};
-use wording::line::refused;
-
-// Room for the words of every outcome, as much as a line has for them.
-const WORDS: usize = 511;
+use file_list::tally::Said;
+use file_list::{line, list};
 
 // The number of the first argument that names a file.
 const FIRST: usize = 1;
 
-// What is said of a file, for the tally.
-fn said(outcome: PayrollOutcome) -> Said
-    ensures { result ≡ said_of outcome }
-{
-    match outcome {
-        PayrollOutcome::Mistake(_) => Said::Unreadable,
-        PayrollOutcome::Answer(answer) => match answer {
-            PayrollAnswer::Accepted(_) => Said::Accepted,
-            PayrollAnswer::Refused(_) => Said::Refused,
-        },
+// Payroll files, each of which is checked alike.
+struct PayrollFiles;
+
+impl Files for PayrollFiles {
+    type Outcome = PayrollOutcome;
+
+    ghost said_of = { said_of };
+
+    ghost words_of = { words_of };
+
+    ghost Checked = { λ _ outcome. Checked outcome };
+
+    fn check(&self, rt: &HostRuntime, name: &[u8]) -> PayrollOutcome {
+        check::check_file(rt, name)
     }
-}
 
-// Puts the words of a file's verdict behind the first `at` bytes, and answers how many bytes stand there then.
-fn put_words(outcome: PayrollOutcome, out: &mut [u8], at: usize) -> usize
-    ensures { Puts (words_of outcome) out.old at result out.new }
-{
-    match outcome {
-        PayrollOutcome::Mistake(_) => line::put_unreadable(out, at),
-        PayrollOutcome::Answer(answer) => match answer {
-            PayrollAnswer::Accepted(accepted) => verdict::put_accepted(accepted, out, at),
-            PayrollAnswer::Refused(refusal) => refused(refusal, out, at),
-        },
-    }
-}
-
-// Writes a file's line, and no other text. Nothing else here writes.
-fn write_line(
-    rt: &HostRuntime,
-    outcome: PayrollOutcome,
-    name: &[u8],
-    line: &[u8],
-) -> Result<(), u64>
-    requires { line.now ≡ file_line (words_of outcome) name.now }
-{
-    writing::write_to(rt, STDOUT, line)
-}
-
-// Prints a file's line by one call, and gives the number of the error where it is not written.
-fn print_line(rt: &HostRuntime, outcome: PayrollOutcome, name: &[u8]) -> Result<(), u64>
-    requires { length name.now ≤ 131072 }
-{
-    let mut words = [0u8; WORDS];
-    let size = put_words(outcome, &mut words, 0);
-    let mut room = line::room();
-    let end = line::put_line(&words[..size], name, &mut room, 0);
-    write_line(rt, outcome, name, &room[..end])
-}
-
-// Checks the files that the arguments name, each name read into `name`.
-fn list_by(rt: &HostRuntime, count: usize, name: &mut [u8]) -> Listed
-    requires { length name.old ≤ 131072 }
-    ensures { ListedAll said_of Checked (count - 1) result }
-{
-    let mut tally = Tally::none();
-    let mut number = FIRST;
-    while number < count {
-        let Argument::Bytes(size) = argument::read(rt, number, name) else {
-            return Listed::Mistake(Mistake::TooLong);
-        };
-        let outcome = check::check_file(rt, &name[..size]);
-        if let Err(error) = print_line(rt, outcome, &name[..size]) {
-            return Listed::Mistake(Mistake::System(Failed::Print, error));
+    fn said(outcome: PayrollOutcome) -> Said {
+        match outcome {
+            Ok(Ok(_)) => Said::Accepted,
+            Ok(Err(_)) => Said::Refused,
+            Err(_) => Said::Unreadable,
         }
-        tally = tally.with(said(outcome));
-        number += 1;
     }
-    Listed::Files(tally)
+
+    #[tactic(auto, using(crate::proofs::Texts::verdict_short))]
+    fn put_words(outcome: PayrollOutcome, out: &mut [u8], at: usize) -> usize {
+        match outcome {
+            Ok(answer) => verdict::put_verdict(answer, out, at),
+            Err(_) => line::put_unreadable(out, at),
+        }
+    }
 }
 
 // Lists the files that the arguments name, where there are `count` arguments with the program's own name.
 pub fn list(rt: &HostRuntime, count: usize) -> Listed
     ensures { ListedAll said_of Checked (count - 1) result }
 {
-    let mut name = argument::room();
-    list_by(rt, count, &mut name)
+    list::list(rt, &PayrollFiles, FIRST, count)
 }

@@ -4,18 +4,14 @@ ghost use Rattle.wording.specs.Put.{Puts};
 ghost use Rattle.payroll_program.specs.Verdict.{accepted_text, verdict_text, outcome_text, descriptor_of};
 
 use crate::outcome::PayrollOutcome;
-use files::writing;
-use files::writing::{STDERR, STDOUT};
+use files::writing::Standard;
 use payroll_file::answer::{Accepted, PayrollAnswer};
-use program::mistake;
-use program::mistake::{Failed, Mistake};
+use program::outcome;
+use program::outcome::Teller;
 use wording::{line, put};
 
-// Room for every text.
-const ROOM: usize = 256;
-
 // Each function here puts its text behind the first `at` bytes, and answers how many bytes stand there then. First the lines of an accepted file.
-pub(crate) fn put_accepted(accepted: Accepted, out: &mut [u8], at: usize) -> usize
+fn put_accepted(accepted: Accepted, out: &mut [u8], at: usize) -> usize
     ensures { Puts (accepted_text accepted) out.old at result out.new }
 {
     let word = put::text(b"ACCEPTED\n", out, at);
@@ -25,12 +21,26 @@ pub(crate) fn put_accepted(accepted: Accepted, out: &mut [u8], at: usize) -> usi
     line::line(b"AMOUNT", accepted.amount, out, payments)
 }
 
-fn put_verdict(answer: PayrollAnswer, out: &mut [u8], at: usize) -> usize
+pub(crate) fn put_verdict(answer: PayrollAnswer, out: &mut [u8], at: usize) -> usize
     ensures { Puts (verdict_text answer) out.old at result out.new }
 {
     match answer {
-        PayrollAnswer::Accepted(accepted) => put_accepted(accepted, out, at),
-        PayrollAnswer::Refused(refusal) => line::refused(refusal, out, at),
+        Ok(accepted) => put_accepted(accepted, out, at),
+        Err(refusal) => line::refused(refusal, out, at),
+    }
+}
+
+// Tells a payroll file's verdict.
+struct Verdict;
+
+impl Teller for Verdict {
+    type Answer = PayrollAnswer;
+
+    ghost text_of = { λ _ answer. verdict_text answer };
+
+    #[tactic(auto, using(crate::proofs::Texts::verdict_short))]
+    fn put(&self, answer: PayrollAnswer, out: &mut [u8], at: usize) -> usize {
+        put_verdict(answer, out, at)
     }
 }
 
@@ -38,34 +48,17 @@ fn put_verdict(answer: PayrollAnswer, out: &mut [u8], at: usize) -> usize
 pub fn put_outcome(outcome: PayrollOutcome, out: &mut [u8], at: usize) -> usize
     ensures { Puts (outcome_text outcome) out.old at result out.new }
 {
-    match outcome {
-        PayrollOutcome::Answer(answer) => put_verdict(answer, out, at),
-        PayrollOutcome::Mistake(mistake) => mistake::put(mistake, out, at),
-    }
+    outcome::put(&Verdict, outcome, out, at)
 }
 
 // Where an outcome's text goes: a verdict to standard output, a mistake to standard error.
-pub fn descriptor(outcome: PayrollOutcome) -> i32
+pub fn descriptor(outcome: PayrollOutcome) -> Standard
     ensures { result ≡ descriptor_of outcome }
 {
-    match outcome {
-        PayrollOutcome::Answer(_) => STDOUT,
-        PayrollOutcome::Mistake(_) => STDERR,
-    }
-}
-
-// Writes an outcome's text, and no other.
-fn write(rt: &HostRuntime, outcome: PayrollOutcome, text: &[u8])
-    requires { text.now ≡ outcome_text outcome }
-{
-    if let Err(error) = writing::write_to(rt, descriptor(outcome), text) {
-        mistake::tell(rt, Mistake::System(Failed::Print, error));
-    }
+    outcome::standard(&outcome)
 }
 
 // Prints the verdict, or tells the mistake, by one call.
 pub fn print(rt: &HostRuntime, outcome: PayrollOutcome) {
-    let mut room = [0u8; ROOM];
-    let size = put_outcome(outcome, &mut room, 0);
-    write(rt, outcome, &room[..size]);
+    outcome::print(rt, &Verdict, outcome);
 }

@@ -8,11 +8,11 @@ use native.Mathlib.Nat.{pow-le-pow_right}
 use lib.ListN.{length, length-take, length-drop}
 use lib.Dec.{leb, lit<}
 use borrow.Author.Tests.{le-leb}
+use Rattle.std.specs.Prelude.{Ok, Err}
 use Rattle.text.specs.declared.alphabet.Alphabet.TheVariants.{Digits}
-use Rattle.text.specs.declared.number.Number.{Number}
-use Rattle.text.specs.declared.number.Number.TheVariants.{Of, NotDigits, TooLong}
+use Rattle.text.specs.declared.number.NoNumber.TheVariants.{NotDigits, TooLong}
 use Rattle.text.specs.Alphabet.{holds_only}
-use Rattle.text.specs.Number.{value_of, plain_number}
+use Rattle.text.specs.Number.{Number, value_of, plain_number}
 use Rattle.text.proofs.Numbers.{value_below}
 use Rattle.payroll_record.specs.declared.field.Field.{Field}
 use Rattle.payroll_record.specs.Field.{part_of, number_in}
@@ -35,24 +35,24 @@ pub record Writes (s : List ℕ) (n : ℕ) : Type 0 where
   pub value : value_of s ≡ n
 
 -- the number that is read by two tests: the part is digits, and not too many
-was_of : (p q : Bool) (v n : ℕ) → cond p (cond q (Of v) TooLong) NotDigits ≡ Of n → (p ≡ true) × (v ≡ n)
+was_of : (p q : Bool) (v n : ℕ) → cond p (cond q (Ok v) (Err TooLong)) (Err NotDigits) ≡ Ok n → (p ≡ true) × (v ≡ n)
 was_of true true v n e = (refl, cc)
 was_of true false v n e = (refl, cc)
 was_of false q v n e = (cc, cc)
 
 -- a number that is read is written there
-pub written : (f : Field) (r : List ℕ) (n : ℕ) → number_in f r ≡ Of n → Writes (part_of f r) n
+pub written : (f : Field) (r : List ℕ) (n : ℕ) → number_in f r ≡ Ok n → Writes (part_of f r) n
 written f r n e =
     let s = part_of f r in
     let is = was_of (holds_only Digits s) (leb (length s) 18) (value_of s) n e in
     record { digits = is.0; value = is.1 }
 
 -- and one that is written there is read, where the field is not too wide
-pub read : (f : Field) (r : List ℕ) (n : ℕ) → width_of f ≤ 18 → Writes (part_of f r) n → number_in f r ≡ Of n
-read f r n h w = rw (w.digits, le-leb (length (part_of f r)) 18 (omega (arith, no_wider f r))) (ap Of w.value)
+pub read : (f : Field) (r : List ℕ) (n : ℕ) → width_of f ≤ 18 → Writes (part_of f r) n → number_in f r ≡ Ok n
+read f r n h w = rw (w.digits, le-leb (length (part_of f r)) 18 (omega (arith, no_wider f r))) (ap Ok w.value)
 
 -- a number of a field of width w is below 10^w
-pub number_below : (f : Field) (r : List ℕ) (n : ℕ) → number_in f r ≡ Of n → n < 10 ^ width_of f
+pub number_below : (f : Field) (r : List ℕ) (n : ℕ) → number_in f r ≡ Ok n → n < 10 ^ width_of f
 number_below f r n e =
     let s = part_of f r in
     let w = written f r n e in
@@ -63,7 +63,6 @@ number_below f r n e =
 pub plain_below : (f : Field) (r : List ℕ) → plain_number (number_in f r) < 10 ^ width_of f
 plain_below f r = of (width_of f) (number_in f r) (number_below f r)
   where
-    of : (w : ℕ) (x : Number) → ((n : ℕ) → x ≡ Of n → n < 10 ^ w) → plain_number x < 10 ^ w
-    of w (Of n) h = h n refl
-    of w NotDigits h = omega (arith, more_digits 0 w (omega arith))
-    of w TooLong h = omega (arith, more_digits 0 w (omega arith))
+    of : (w : ℕ) (x : Number) → ((n : ℕ) → x ≡ Ok n → n < 10 ^ w) → plain_number x < 10 ^ w
+    of w (Ok n) h = h n refl
+    of w (Err none) h = omega (arith, more_digits 0 w (omega arith))

@@ -1,5 +1,5 @@
-mod Rows
 pub mod Strays
+mod OneByte
 pub mod Fields
 pub mod NoFault
 pub mod RightRecords

@@ -8,24 +8,19 @@ use mathlib.Core.Bool.{Bool, true, false, false≢true}
 use lib.ListN.{length}
 use lib.Dec.{eqb}
 use borrow.Author.Tests.{eq-eqb, eqb-true}
+use Rattle.std.specs.Prelude.{Option, Some, None, Ok, Err, is_none}
 use Rattle.refusal.specs.declared.Cause.{Cause}
-use Rattle.refusal.specs.declared.Fault.{Fault}
-use Rattle.refusal.specs.declared.Fault.TheVariants.{Nothing, At as at}
-use Rattle.refusal.specs.Fault.{earlier_of}
+use Rattle.refusal.specs.Fault.{Judged, nothing, at, earlier_of}
 use Rattle.refusal.specs.Rules.{Rule, rule_at, first_broken}
 use Rattle.refusal.proofs.Faults.{not_both}
 use Rattle.refusal.proofs.Rules.{in_a_row}
 use Rattle.text.specs.declared.alphabet.Alphabet.TheVariants.{Digits, PlainAscii}
-use Rattle.text.specs.declared.alphabet.Stray.{Stray}
-use Rattle.text.specs.declared.alphabet.Stray.TheVariants.{At as strayed, Nowhere}
-use Rattle.text.specs.declared.number.Number.{Number}
-use Rattle.text.specs.declared.number.Number.TheVariants.{Of, NotDigits, TooLong}
-use Rattle.text.specs.Alphabet.{holds_only, first_stray, is_nowhere}
-use Rattle.text.specs.Number.{value_of}
+use Rattle.text.specs.declared.number.NoNumber.TheVariants.{NotDigits, TooLong}
+use Rattle.text.specs.Alphabet.{holds_only, first_stray}
+use Rattle.text.specs.Number.{Number, value_of}
 use Rattle.text.proofs.Strays.{nowhere}
-use Rattle.calendar.specs.declared.when.When.{When}
-use Rattle.calendar.specs.declared.when.When.TheVariants.{NotDigits as no_digits, NoSuch, At}
-use Rattle.calendar.specs.When.{when_rules}
+use Rattle.calendar.specs.declared.when.Unreadable.TheVariants.{NotDigits as no_digits, NoSuch}
+use Rattle.calendar.specs.When.{When, when_rules}
 use Rattle.calendar.specs.Day.{is_day, turned, day_first}
 use Rattle.calendar.proofs.Whens.{day_first_lem}
 use Rattle.payroll_record.specs.declared.field.Field.{Field}
@@ -35,10 +30,10 @@ use Rattle.payroll_record.proofs.Fields.{width_of, Writes, written, read}
 
 -- a row of rules without a fault
 abbrev pub NoFault : List Rule → Type 0
-NoFault rules = first_broken rules ≡ Nothing
+NoFault rules = first_broken rules ≡ nothing
 
 -- a fault is not no fault
-never : {A : Type 0} {c : Cause} {k : ℕ} → at c k ≡ Nothing → A
+never : {A : Type 0} {c : Cause} {k : ℕ} → at c k ≡ nothing → A
 never e = absurd (not_both (sym e))
 
 -- rows in a row
@@ -46,9 +41,9 @@ pub none_in_a_row : (a b : List Rule) → NoFault (a ++ b) ↔ NoFault a × NoFa
 none_in_a_row a b =
     (λ e. each (first_broken a) (first_broken b) (sym (in_a_row a b) ∙ e), λ h. in_a_row a b ∙ rw h.0 h.1)
   where
-    each : (f g : Fault) → earlier_of f g ≡ Nothing → (f ≡ Nothing) × (g ≡ Nothing)
-    each Nothing g e = (refl, e)
-    each (at c k) g e = never e
+    each : (f g : Judged) → earlier_of f g ≡ nothing → (f ≡ nothing) × (g ≡ nothing)
+    each (Ok none) g e = (refl, e)
+    each (Err fault) g e = never e
 
 -- one rule
 pub none_of_one : (c : Cause) (k : ℕ) (h : Bool) → NoFault (rule_at c k h ∷ []) ↔ (h ≡ true)
@@ -57,23 +52,23 @@ none_of_one c k true = (λ e. refl, λ h. refl)
 none_of_one c k false = (λ e. never e, λ h. absurd (false≢true h))
 
 -- a number: it is the one that it should be
-pub number_right : (c : Cause) (k : ℕ) (n : Number) (right : ℕ) → NoFault (number_rules c k n right) ↔ (n ≡ Of right)
+pub number_right : (c : Cause) (k : ℕ) (n : Number) (right : ℕ) → NoFault (number_rules c k n right) ↔ (n ≡ Ok right)
 unfolding first_broken number_rules
-number_right c k NotDigits right = (λ e. never e, λ h. cc)
-number_right c k TooLong right = (λ e. never e, λ h. cc)
-number_right c k (Of n) right = (
-  λ e. ap Of (eqb-true n right ((none_of_one c k (eqb n right)).0 e)),
+number_right c k (Err NotDigits) right = (λ e. never e, λ h. cc)
+number_right c k (Err TooLong) right = (λ e. never e, λ h. cc)
+number_right c k (Ok n) right = (
+  λ e. ap Ok (eqb-true n right ((none_of_one c k (eqb n right)).0 e)),
   λ h.
       let same : n ≡ right = cc in
       (none_of_one c k (eqb n right)).1 (eq-eqb n right same),
 )
 
 -- a day or a time: it names one
-pub when_right : (k : ℕ) (w : When) → NoFault (when_rules k w) ↔ (n : ℕ) × (w ≡ At n)
+pub when_right : (k : ℕ) (w : When) → NoFault (when_rules k w) ↔ (n : ℕ) × (w ≡ Ok n)
 unfolding first_broken when_rules
-when_right k no_digits = (λ e. never e, λ h. cc h.1)
-when_right k NoSuch = (λ e. never e, λ h. cc h.1)
-when_right k (At n) = (λ e. (n, refl), λ h. refl)
+when_right k (Err no_digits) = (λ e. never e, λ h. cc h.1)
+when_right k (Err NoSuch) = (λ e. never e, λ h. cc h.1)
+when_right k (Ok n) = (λ e. (n, refl), λ h. refl)
 
 -- a part is a real day, DDMMAAAA
 pub record RealDay (s : List ℕ) : Type 0 where
@@ -108,6 +103,6 @@ pub plain_right : (r : List ℕ) → NoFault (stray_rules r) ↔ (holds_only Pla
 unfolding first_broken stray_at
 plain_right r = of (first_stray PlainAscii 0 r) (nowhere PlainAscii 0 r)
   where
-    of : (found : Stray) {p : Bool} → p ≡ is_nowhere found → NoFault (stray_at found) ↔ (p ≡ true)
-    of Nowhere p = (λ e. p, λ h. refl)
-    of (strayed k) p = (λ e. never e, λ h. absurd (false≢true (sym p ∙ h)))
+    of : (found : Option ℕ) {p : Bool} → p ≡ is_none found → NoFault (stray_at found) ↔ (p ≡ true)
+    of None p = (λ e. p, λ h. refl)
+    of (Some k) p = (λ e. never e, λ h. absurd (false≢true (sym p ∙ h)))

@@ -9,6 +9,7 @@ use native.Mathlib.Omega.{arith}
 use lib.ListN.{length}
 use lib.Dec.{eqb}
 use borrow.Author.Tests.{eq-eqb, ne_eqb, eqb-true}
+use Rattle.std.specs.Prelude.{Ok, Err}
 use Rattle.payroll_record.specs.declared.kind.Kind.{Kind}
 use Rattle.payroll_record.specs.declared.kind.Kind.TheVariants.{
   FileHeader,
@@ -19,8 +20,7 @@ use Rattle.payroll_record.specs.declared.kind.Kind.TheVariants.{
   BatchTrailer,
   FileTrailer,
 }
-use Rattle.payroll_record.specs.declared.kind.KindFound.{KindFound}
-use Rattle.payroll_record.specs.declared.kind.KindFound.TheVariants.{Known, UnknownKind, UnknownSegment}
+use Rattle.payroll_record.specs.declared.kind.NoKind.TheVariants.{UnknownKind, UnknownSegment}
 use Rattle.payroll_record.specs.declared.file_header.FileHeader.{FileHeader as Header}
 use Rattle.payroll_record.specs.declared.batch_header.BatchHeader.{BatchHeader as HeaderOfBatch}
 use Rattle.payroll_record.specs.declared.detail.Detail.{Detail}
@@ -37,7 +37,7 @@ use Rattle.payroll_record.specs.declared.reading.Reading.TheVariants.{
   BatchTrailer as batch_trailer,
   FileTrailer as file_trailer,
 }
-use Rattle.payroll_record.specs.Kind.{kind_of}
+use Rattle.payroll_record.specs.Kind.{KindFound, kind_of}
 use Rattle.payroll_record.specs.FileHeader.{header_of}
 use Rattle.payroll_record.specs.BatchHeader.{batch_header_of}
 use Rattle.payroll_record.specs.Detail.{segment_aOf, other_segment_of}
@@ -53,26 +53,26 @@ pub record Found (found : KindFound) (r : List ℕ) : Type 0 where
 -- what a reading tells of it: nothing, where the width is wrong
 abbrev pub found_in : Reading → List KindFound
 found_in wrong_width = []
-found_in unknown_kind = UnknownKind ∷ []
-found_in unknown_segment = UnknownSegment ∷ []
-found_in (file_header h) = Known FileHeader ∷ []
-found_in (batch_header h) = Known BatchHeader ∷ []
-found_in (detail d) = Known d.segment ∷ []
-found_in (batch_trailer t) = Known BatchTrailer ∷ []
-found_in (file_trailer t) = Known FileTrailer ∷ []
+found_in unknown_kind = Err UnknownKind ∷ []
+found_in unknown_segment = Err UnknownSegment ∷ []
+found_in (file_header h) = Ok FileHeader ∷ []
+found_in (batch_header h) = Ok BatchHeader ∷ []
+found_in (detail d) = Ok d.segment ∷ []
+found_in (batch_trailer t) = Ok BatchTrailer ∷ []
+found_in (file_trailer t) = Ok FileTrailer ∷ []
 
 -- a reading tells what it was read as
 kept : (found : KindFound) (r : List ℕ) → found_in (read_found found r) ≡ found ∷ []
 unfolding read_found read_as
-kept (Known FileHeader) r = refl
-kept (Known BatchHeader) r = refl
-kept (Known SegmentA) r = refl
-kept (Known SegmentB) r = refl
-kept (Known SegmentZ) r = refl
-kept (Known BatchTrailer) r = refl
-kept (Known FileTrailer) r = refl
-kept UnknownKind r = refl
-kept UnknownSegment r = refl
+kept (Ok FileHeader) r = refl
+kept (Ok BatchHeader) r = refl
+kept (Ok SegmentA) r = refl
+kept (Ok SegmentB) r = refl
+kept (Ok SegmentZ) r = refl
+kept (Ok BatchTrailer) r = refl
+kept (Ok FileTrailer) r = refl
+kept (Err UnknownKind) r = refl
+kept (Err UnknownSegment) r = refl
 
 -- two different values are not equal
 never : {A : Type 0} → ◌≡◌ {A = ℕ} 0 1 → A
@@ -103,51 +103,51 @@ told_found r found x told = (
 
 -- so what a kind is read into is that kind's own
 into : {A : Type 0} (make : A → Reading) → ((a b : A) → make a ≡ make b → a ≡ b) → (r : List ℕ) (k : Kind) (own : A) → read_as k r ≡ make own →
-    (a : A) → found_in (make a) ≡ Known k ∷ [] → (reading_of r ≡ make a) ↔ (Found (Known k) r × (a ≡ own))
+    (a : A) → found_in (make a) ≡ Ok k ∷ [] → (reading_of r ≡ make a) ↔ (Found (Ok k) r × (a ≡ own))
 unfolding read_found
 into make one r k own reads a told =
-    let law = told_found r (Known k) (make a) told in (
+    let law = told_found r (Ok k) (make a) told in (
       λ e.
           let is = law.0 e in
           (is.0, one a own (is.1 ∙ reads)),
       λ is. law.1 (is.0, ap make is.1 ∙ sym reads),
     )
 
-pub file_header_lem : (r : List ℕ) (h : Header) → (reading_of r ≡ file_header h) ↔ (Found (Known FileHeader) r × (h ≡ header_of r))
+pub file_header_lem : (r : List ℕ) (h : Header) → (reading_of r ≡ file_header h) ↔ (Found (Ok FileHeader) r × (h ≡ header_of r))
 unfolding read_as
 file_header_lem r h = into file_header (λ a b e. cc) r FileHeader (header_of r) refl h refl
 
-pub batch_header_lem : (r : List ℕ) (h : HeaderOfBatch) → (reading_of r ≡ batch_header h) ↔ (Found (Known BatchHeader) r × (h ≡ batch_header_of r))
+pub batch_header_lem : (r : List ℕ) (h : HeaderOfBatch) → (reading_of r ≡ batch_header h) ↔ (Found (Ok BatchHeader) r × (h ≡ batch_header_of r))
 unfolding read_as
 batch_header_lem r h = into batch_header (λ a b e. cc) r BatchHeader (batch_header_of r) refl h refl
 
-pub batch_trailer_lem : (r : List ℕ) (t : TrailerOfBatch) → (reading_of r ≡ batch_trailer t) ↔ (Found (Known BatchTrailer) r × (t ≡ batch_trailer_of r))
+pub batch_trailer_lem : (r : List ℕ) (t : TrailerOfBatch) → (reading_of r ≡ batch_trailer t) ↔ (Found (Ok BatchTrailer) r × (t ≡ batch_trailer_of r))
 unfolding read_as
 batch_trailer_lem r t = into batch_trailer (λ a b e. cc) r BatchTrailer (batch_trailer_of r) refl t refl
 
-pub file_trailer_lem : (r : List ℕ) (t : Trailer) → (reading_of r ≡ file_trailer t) ↔ (Found (Known FileTrailer) r × (t ≡ file_trailer_of r))
+pub file_trailer_lem : (r : List ℕ) (t : Trailer) → (reading_of r ≡ file_trailer t) ↔ (Found (Ok FileTrailer) r × (t ≡ file_trailer_of r))
 unfolding read_as
 file_trailer_lem r t = into file_trailer (λ a b e. cc) r FileTrailer (file_trailer_of r) refl t refl
 
 -- a detail, by its segment
 of_segment : (r : List ℕ) (k : Kind) (own : Detail) → read_as k r ≡ detail own → (d : Detail) → d.segment ≡ k →
-    (reading_of r ≡ detail d) ↔ (Found (Known k) r × (d ≡ own))
-of_segment r k own reads d e = into detail (λ a b e. cc) r k own reads d (ap (λ k. Known k ∷ []) e)
+    (reading_of r ≡ detail d) ↔ (Found (Ok k) r × (d ≡ own))
+of_segment r k own reads d e = into detail (λ a b e. cc) r k own reads d (ap (λ k. Ok k ∷ []) e)
 
-pub segment_a : (r : List ℕ) (d : Detail) → d.segment ≡ SegmentA → (reading_of r ≡ detail d) ↔ (Found (Known SegmentA) r × (d ≡ segment_aOf r))
+pub segment_a : (r : List ℕ) (d : Detail) → d.segment ≡ SegmentA → (reading_of r ≡ detail d) ↔ (Found (Ok SegmentA) r × (d ≡ segment_aOf r))
 unfolding read_as
 segment_a r = of_segment r SegmentA (segment_aOf r) refl
 
 -- B or Z
 pub other_segment : (r : List ℕ) (k : Kind) → (k ≡ SegmentB) ⊎ (k ≡ SegmentZ) → (d : Detail) → d.segment ≡ k →
-    (reading_of r ≡ detail d) ↔ (Found (Known k) r × (d ≡ other_segment_of k r))
+    (reading_of r ≡ detail d) ↔ (Found (Ok k) r × (d ≡ other_segment_of k r))
 unfolding read_as
 other_segment r k which = of_segment r k (other_segment_of k r) (⊎_elim (λ e. rw e) (λ e. rw e) which)
 
 -- and there is no other segment
 pub segments : (r : List ℕ) (d : Detail) → reading_of r ≡ detail d → (d.segment ≡ SegmentA) ⊎ ((d.segment ≡ SegmentB) ⊎ (d.segment ≡ SegmentZ))
 unfolding read_found read_as
-segments r d e = one d.segment refl ((told_found r (Known d.segment) (detail d) refl).0 e).1
+segments r d e = one d.segment refl ((told_found r (Ok d.segment) (detail d) refl).0 e).1
   where
     one : (k : Kind) → d.segment ≡ k → detail d ≡ read_as k r → (d.segment ≡ SegmentA) ⊎ ((d.segment ≡ SegmentB) ⊎ (d.segment ≡ SegmentZ))
     one SegmentA e is = inl e
@@ -172,10 +172,10 @@ nothing_else r found x told is =
     let law = told_found r found x told in
     (λ e. (law.0 e).0, λ h. law.1 (h, is))
 
-pub unknown_kind_lem : (r : List ℕ) → (reading_of r ≡ unknown_kind) ↔ Found UnknownKind r
+pub unknown_kind_lem : (r : List ℕ) → (reading_of r ≡ unknown_kind) ↔ Found (Err UnknownKind) r
 unfolding read_found
-unknown_kind_lem r = nothing_else r UnknownKind unknown_kind refl refl
+unknown_kind_lem r = nothing_else r (Err UnknownKind) unknown_kind refl refl
 
-pub unknown_segment_lem : (r : List ℕ) → (reading_of r ≡ unknown_segment) ↔ Found UnknownSegment r
+pub unknown_segment_lem : (r : List ℕ) → (reading_of r ≡ unknown_segment) ↔ Found (Err UnknownSegment) r
 unfolding read_found
-unknown_segment_lem r = nothing_else r UnknownSegment unknown_segment refl refl
+unknown_segment_lem r = nothing_else r (Err UnknownSegment) unknown_segment refl refl

@@ -1,7 +1,6 @@
 -- A detail: bank, batch number, detail number, and what a payment has besides.
 use Rattle.std.specs.Prelude.{ℕ, List, ◌++◌}
-use Rattle.refusal.specs.declared.Fault.{Fault}
-use Rattle.refusal.specs.declared.Fault.TheVariants.{Nothing}
+use Rattle.refusal.specs.Fault.{Judged, nothing}
 use Rattle.refusal.specs.Rules.{Rule, first_broken}
 use Rattle.text.specs.Number.{plain_number}
 use Rattle.payroll_record.specs.declared.kind.Kind.{Kind}
@@ -24,7 +23,7 @@ abbrev pub amount_of : List ℕ → ℕ
 amount_of r = plain_number (number_in amount r)
 
 -- "Detail number 9-13": what every detail has, whatever stands behind that
-abbrev pub detail_of : Kind → Fault → ℕ → List ℕ → Detail
+abbrev pub detail_of : Kind → Judged → ℕ → List ℕ → Detail
 detail_of segment rest paid r =
     record {
       segment = segment;
@@ -41,4 +40,4 @@ segment_aOf r = detail_of SegmentA (first_broken (payment_rules r)) (amount_of r
 
 -- segments B and Z
 abbrev pub other_segment_of : Kind → List ℕ → Detail
-other_segment_of segment r = detail_of segment Nothing 0 r
+other_segment_of segment r = detail_of segment nothing 0 r

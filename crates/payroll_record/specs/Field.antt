@@ -1,14 +1,13 @@
 -- Fields, and the rules of what they hold: "The fields below are digits (7) and are judged by position, by the number given, trailer
 -- counts and sums by 11, all else by 8".
-use Rattle.std.specs.Prelude.{ℕ, List, [], ◌∷◌, true, false, eqb}
+use Rattle.std.specs.Prelude.{ℕ, List, [], ◌∷◌, true, false, eqb, Ok, Err}
 use Rattle.refusal.specs.declared.Cause.{Cause}
 use Rattle.refusal.specs.declared.Cause.TheVariants.{ByteNotAllowed}
 use Rattle.refusal.specs.Rules.{Rule, rule_at}
 use Rattle.text.specs.declared.alphabet.Alphabet.TheVariants.{Digits}
 use Rattle.text.specs.Alphabet.{holds_only}
-use Rattle.text.specs.declared.number.Number.{Number}
-use Rattle.text.specs.declared.number.Number.TheVariants.{Of, NotDigits, TooLong}
-use Rattle.text.specs.Number.{number_of}
+use Rattle.text.specs.declared.number.NoNumber.TheVariants.{NotDigits, TooLong}
+use Rattle.text.specs.Number.{Number, number_of}
 use Rattle.text.specs.Part.{positions}
 use Rattle.calendar.specs.When.{when_rules}
 use Rattle.calendar.specs.Day.{day_first}
@@ -39,9 +38,9 @@ digit_rules f r = rule_at ByteNotAllowed f.0 (holds_only Digits (part_of f r)) �
 
 -- a number that is digits (7), and then the one that it should be
 unfoldable pub number_rules : Cause → ℕ → Number → ℕ → List Rule
-number_rules cause column NotDigits right = rule_at ByteNotAllowed column false ∷ []
-number_rules cause column TooLong right = rule_at ByteNotAllowed column true ∷ rule_at cause column false ∷ []
-number_rules cause column (Of n) right = rule_at ByteNotAllowed column true ∷ rule_at cause column (eqb n right) ∷ []
+number_rules cause column (Err NotDigits) right = rule_at ByteNotAllowed column false ∷ []
+number_rules cause column (Err TooLong) right = rule_at ByteNotAllowed column true ∷ rule_at cause column false ∷ []
+number_rules cause column (Ok n) right = rule_at ByteNotAllowed column true ∷ rule_at cause column (eqb n right) ∷ []
 
 -- "Dates are DDMMAAAA, in the card file's range"
 abbrev pub day_rules : Field → List ℕ → List Rule

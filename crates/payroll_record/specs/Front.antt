@@ -1,17 +1,15 @@
 -- What every record has in front.
-use Rattle.std.specs.Prelude.{ℕ, ◌+◌, List, [], ◌∷◌, ◌++◌, false}
+use Rattle.std.specs.Prelude.{ℕ, ◌+◌, List, [], ◌∷◌, ◌++◌, false, Option, Some, None}
 use Rattle.refusal.specs.declared.Cause.TheVariants.{ByteNotAllowed, ValueNotAllowed}
 use Rattle.refusal.specs.Rules.{Rule, rule_at}
 use Rattle.text.specs.declared.alphabet.Alphabet.TheVariants.{PlainAscii}
-use Rattle.text.specs.declared.alphabet.Stray.{Stray}
-use Rattle.text.specs.declared.alphabet.Stray.TheVariants.{At, Nowhere}
 use Rattle.text.specs.Alphabet.{first_stray}
 use Rattle.payroll_record.specs.Field.{bank, number_rules, number_in}
 
 -- "then 7 for any byte outside 32 to 126 (column of that byte)"
-unfoldable pub stray_at : Stray → List Rule
-stray_at Nowhere = []
-stray_at (At place) = rule_at ByteNotAllowed (place + 1) false ∷ []
+unfoldable pub stray_at : Option ℕ → List Rule
+stray_at None = []
+stray_at (Some place) = rule_at ByteNotAllowed (place + 1) false ∷ []
 
 abbrev pub stray_rules : List ℕ → List Rule
 stray_rules r = stray_at (first_stray PlainAscii 0 r)

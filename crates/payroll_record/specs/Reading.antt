@@ -1,5 +1,5 @@
 -- What reading a record answers: at each record "6, 4", then what the record alone decides of 7 and of its fields.
-use Rattle.std.specs.Prelude.{ℕ, List, cond, length, eqb}
+use Rattle.std.specs.Prelude.{ℕ, List, cond, length, eqb, Ok, Err}
 use Rattle.payroll_record.specs.declared.kind.Kind.{Kind}
 use Rattle.payroll_record.specs.declared.kind.Kind.TheVariants.{
   FileHeader,
@@ -10,8 +10,7 @@ use Rattle.payroll_record.specs.declared.kind.Kind.TheVariants.{
   BatchTrailer,
   FileTrailer,
 }
-use Rattle.payroll_record.specs.declared.kind.KindFound.{KindFound}
-use Rattle.payroll_record.specs.declared.kind.KindFound.TheVariants.{Known, UnknownKind, UnknownSegment}
+use Rattle.payroll_record.specs.declared.kind.NoKind.TheVariants.{UnknownKind, UnknownSegment}
 use Rattle.payroll_record.specs.declared.reading.Reading.{Reading}
 use Rattle.payroll_record.specs.declared.reading.Reading.TheVariants.{
   WrongWidth as wrong_width,
@@ -23,7 +22,7 @@ use Rattle.payroll_record.specs.declared.reading.Reading.TheVariants.{
   BatchTrailer as batch_trailer,
   FileTrailer as file_trailer,
 }
-use Rattle.payroll_record.specs.Kind.{kind_of}
+use Rattle.payroll_record.specs.Kind.{KindFound, kind_of}
 use Rattle.payroll_record.specs.FileHeader.{header_of}
 use Rattle.payroll_record.specs.BatchHeader.{batch_header_of}
 use Rattle.payroll_record.specs.Detail.{segment_aOf, other_segment_of}
@@ -40,9 +39,9 @@ read_as BatchTrailer r = batch_trailer (batch_trailer_of r)
 read_as FileTrailer r = file_trailer (file_trailer_of r)
 
 unfoldable pub read_found : KindFound → List ℕ → Reading
-read_found (Known kind) r = read_as kind r
-read_found UnknownKind r = unknown_kind
-read_found UnknownSegment r = unknown_segment
+read_found (Ok kind) r = read_as kind r
+read_found (Err UnknownKind) r = unknown_kind
+read_found (Err UnknownSegment) r = unknown_segment
 
 -- any bytes as a record: "240 bytes"
 abbrev pub reading_of : List ℕ → Reading

@@ -4,13 +4,13 @@ ghost use Rattle.payroll_record.specs.BatchHeader.{batch_header_of};
 
 use crate::field::Field;
 use refusal::Fault;
-use text::number::Number;
+use text::number::NoNumber;
 
 // The fault in front of its batch number, and that number.
 #[derive(Clone, Copy)]
 pub struct BatchHeader {
-    pub front: Fault,
-    pub batch: Number,
+    pub front: Result<(), Fault>,
+    pub batch: Result<u64, NoNumber>,
 }
 
 impl BatchHeader {

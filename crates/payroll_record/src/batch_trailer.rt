@@ -4,15 +4,15 @@ ghost use Rattle.payroll_record.specs.BatchTrailer.{batch_trailer_of};
 
 use crate::field::Field;
 use refusal::Fault;
-use text::number::Number;
+use text::number::NoNumber;
 
 // The fault in front of its batch number, that number, and what it counts and sums.
 #[derive(Clone, Copy)]
 pub struct BatchTrailer {
-    pub front: Fault,
-    pub batch: Number,
-    pub count: Number,
-    pub sum: Number,
+    pub front: Result<(), Fault>,
+    pub batch: Result<u64, NoNumber>,
+    pub count: Result<u64, NoNumber>,
+    pub sum: Result<u64, NoNumber>,
 }
 
 impl BatchTrailer {

@@ -1,20 +1,21 @@
 // A detail: segment A is a payment, B and Z tell more of it.
 ghost use Rattle.std.specs.Prelude.{◌≡◌};
-ghost use Rattle.payroll_record.specs.Detail.{amount_of, segment_aOf, other_segment_of};
+ghost use Rattle.refusal.specs.Rules.{first_broken};
+ghost use Rattle.payroll_record.specs.Detail.{payment_rules, amount_of, segment_aOf, other_segment_of};
 
 use crate::field::Field;
 use crate::kind::Kind;
 use refusal::Fault;
-use text::number::Number;
+use text::number::NoNumber;
 
 // The fault in front of its batch number, that number, its detail number, the fault behind it, and a payment's amount.
 #[derive(Clone, Copy)]
 pub struct Detail {
     pub segment: Kind,
-    pub front: Fault,
-    pub batch: Number,
-    pub number: Number,
-    pub rest: Fault,
+    pub front: Result<(), Fault>,
+    pub batch: Result<u64, NoNumber>,
+    pub number: Result<u64, NoNumber>,
+    pub rest: Result<(), Fault>,
     pub amount: u64,
 }
 
@@ -29,7 +30,16 @@ impl Detail {
     fn amount_of(bytes: &[u8]) -> u64
         ensures { result ≡ amount_of bytes.now }
     {
-        Detail::AMOUNT.number(bytes).or_zero()
+        text::number::or_zero(Detail::AMOUNT.number(bytes))
+    }
+
+    // The fault of a payment's day, and then of its amount.
+    #[tactic(auto, using(refusal::proofs::Rules::in_a_row), unfolding(refusal::specs::Rules::first_broken))]
+    fn payment_fault(bytes: &[u8]) -> Result<(), Fault>
+        ensures { result ≡ first_broken (payment_rules bytes.now) }
+    {
+        Detail::DATE.day_fault(bytes)?;
+        Detail::AMOUNT.digits_fault(bytes)
     }
 
     // A payment.
@@ -41,9 +51,7 @@ impl Detail {
             front: crate::front::front_fault(bytes),
             batch: Field::BATCH.number(bytes),
             number: Detail::NUMBER.number(bytes),
-            rest: Detail::DATE
-                .day_fault(bytes)
-                .earlier(Detail::AMOUNT.digits_fault(bytes)),
+            rest: Detail::payment_fault(bytes),
             amount: Detail::amount_of(bytes),
         }
     }
@@ -57,7 +65,7 @@ impl Detail {
             front: crate::front::front_fault(bytes),
             batch: Field::BATCH.number(bytes),
             number: Detail::NUMBER.number(bytes),
-            rest: Fault::Nothing,
+            rest: Ok(()),
             amount: 0,
         }
     }

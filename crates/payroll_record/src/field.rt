@@ -7,9 +7,10 @@ ghost use Rattle.payroll_record.specs.Field.{number_in, digit_rules, number_rule
 
 use refusal::{Cause, Fault};
 use text::alphabet::Alphabet;
-use text::number::Number;
+use text::number::NoNumber;
 
-// The first and the last position, from 1, as the tables print them.
+// The first and the last position, from 1, as the tables print them. A card file's field has a content besides, which this table has not: what both do is
+// `part_of` and `rule`, each a call, so a type over both would be no plainer.
 #[derive(Clone, Copy)]
 pub struct Field(pub usize, pub usize);
 
@@ -34,14 +35,14 @@ impl Field {
     }
 
     // What the field says as a number.
-    pub fn number(self, bytes: &[u8]) -> Number
+    pub fn number(self, bytes: &[u8]) -> Result<u64, NoNumber>
         ensures { result ≡ number_in self bytes.now }
     {
         text::number::number_of(self.part(bytes))
     }
 
     // The fault of a rule that is broken at this field unless it holds.
-    pub fn rule(self, cause: Cause, holds: bool) -> Fault
+    pub fn rule(self, cause: Cause, holds: bool) -> Result<(), Fault>
         ensures { result ≡ rule_of cause self.0 holds }
     {
         let column = self.0 as u64;
@@ -49,7 +50,8 @@ impl Field {
     }
 
     // The fault of this field, which is digits.
-    pub fn digits_fault(self, bytes: &[u8]) -> Fault
+    #[tactic(auto, unfolding(refusal::specs::Rules::first_broken))]
+    pub fn digits_fault(self, bytes: &[u8]) -> Result<(), Fault>
         ensures { result ≡ first_broken (digit_rules self bytes.now) }
     {
         let digits = text::alphabet::holds_only(Alphabet::Digits, self.part(bytes));
@@ -57,21 +59,27 @@ impl Field {
     }
 
     // The fault of a number that stands in this field and should be another: 7 for what is no number, else the cause given.
-    pub fn should_be(self, number: Number, right: u64, cause: Cause) -> Fault
+    #[tactic(auto, unfolding(refusal::specs::Rules::first_broken, crate::specs::Field::number_rules))]
+    pub fn should_be(
+        self,
+        number: Result<u64, NoNumber>,
+        right: u64,
+        cause: Cause,
+    ) -> Result<(), Fault>
         ensures { result ≡ first_broken (number_rules cause self.0 number right) }
     {
         match number {
-            Number::NotDigits => self.rule(Cause::ByteNotAllowed, false),
-            Number::TooLong => self.rule(cause, false),
-            Number::Of(n) => self.rule(cause, n == right),
+            Err(NoNumber::NotDigits) => self.rule(Cause::ByteNotAllowed, false),
+            Err(NoNumber::TooLong) => self.rule(cause, false),
+            Ok(n) => self.rule(cause, n == right),
         }
     }
 
     // The fault of this field as a day, DDMMAAAA.
-    pub fn day_fault(self, bytes: &[u8]) -> Fault
+    pub fn day_fault(self, bytes: &[u8]) -> Result<(), Fault>
         ensures { result ≡ first_broken (day_rules self bytes.now) }
     {
         let column = self.0 as u64;
-        calendar::day::day_first(self.part(bytes)).fault(column)
+        calendar::when::fault_of(calendar::day::day_first(self.part(bytes)), column)
     }
 }

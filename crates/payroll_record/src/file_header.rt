@@ -9,7 +9,7 @@ use refusal::{Cause, Fault};
 // Its first fault, and whether the file is a return, in which a Z may stand.
 #[derive(Clone, Copy)]
 pub struct FileHeader {
-    pub fault: Fault,
+    pub fault: Result<(), Fault>,
     pub is_return: bool,
 }
 
@@ -22,24 +22,25 @@ impl FileHeader {
     pub const DATE: Field = Field(144, 151);
 
     // The fault of the code.
-    fn code_fault(bytes: &[u8]) -> Fault
+    #[tactic(auto, using(refusal::proofs::Rules::in_a_row), unfolding(refusal::specs::Rules::first_broken))]
+    fn code_fault(bytes: &[u8]) -> Result<(), Fault>
         ensures { result ≡ first_broken (code_rules bytes.now) }
     {
+        FileHeader::CODE.digits_fault(bytes)?;
         let known = text::literal::is_one_of(FileHeader::CODE.part(bytes), b"12");
-        FileHeader::CODE
-            .digits_fault(bytes)
-            .earlier(FileHeader::CODE.rule(Cause::ValueNotAllowed, known))
+        FileHeader::CODE.rule(Cause::ValueNotAllowed, known)
     }
 
     // The first fault of a file header: every rule of it looks at this record alone.
-    fn fault_of(bytes: &[u8]) -> Fault
+    #[tactic(auto, using(refusal::proofs::Rules::in_a_row), unfolding(refusal::specs::Rules::first_broken))]
+    fn fault_of(bytes: &[u8]) -> Result<(), Fault>
         ensures { result ≡ first_broken (header_rules bytes.now) }
     {
+        crate::front::front_fault(bytes)?;
         let batch = Field::BATCH.number(bytes);
-        crate::front::front_fault(bytes)
-            .earlier(Field::BATCH.should_be(batch, FileHeader::BATCH, Cause::ValueNotAllowed))
-            .earlier(FileHeader::code_fault(bytes))
-            .earlier(FileHeader::DATE.day_fault(bytes))
+        Field::BATCH.should_be(batch, FileHeader::BATCH, Cause::ValueNotAllowed)?;
+        FileHeader::code_fault(bytes)?;
+        FileHeader::DATE.day_fault(bytes)
     }
 
     pub fn read(bytes: &[u8]) -> FileHeader

@@ -5,14 +5,14 @@ ghost use Rattle.payroll_record.specs.FileTrailer.{trailer_front_rules, file_tra
 
 use crate::field::Field;
 use refusal::{Cause, Fault};
-use text::number::Number;
+use text::number::NoNumber;
 
 // The fault in front of its counts, and these.
 #[derive(Clone, Copy)]
 pub struct FileTrailer {
-    pub front: Fault,
-    pub batches: Number,
-    pub records: Number,
+    pub front: Result<(), Fault>,
+    pub batches: Result<u64, NoNumber>,
+    pub records: Result<u64, NoNumber>,
 }
 
 impl FileTrailer {
@@ -24,15 +24,13 @@ impl FileTrailer {
     pub const RECORDS: Field = Field(24, 29);
 
     // The fault of the bytes, the bank and the batch number.
-    fn front_of(bytes: &[u8]) -> Fault
+    #[tactic(auto, using(refusal::proofs::Rules::in_a_row), unfolding(refusal::specs::Rules::first_broken))]
+    fn front_of(bytes: &[u8]) -> Result<(), Fault>
         ensures { result ≡ first_broken (trailer_front_rules bytes.now) }
     {
+        crate::front::front_fault(bytes)?;
         let batch = Field::BATCH.number(bytes);
-        crate::front::front_fault(bytes).earlier(Field::BATCH.should_be(
-            batch,
-            FileTrailer::BATCH,
-            Cause::ValueNotAllowed,
-        ))
+        Field::BATCH.should_be(batch, FileTrailer::BATCH, Cause::ValueNotAllowed)
     }
 
     pub fn read(bytes: &[u8]) -> FileTrailer

@@ -15,50 +15,37 @@ pub enum Kind {
     FileTrailer,
 }
 
-// A record's kind, or that its kind or its segment is none of these.
+// Why a record is of no kind: its kind or its segment is none of these.
 #[derive(Clone, Copy)]
-pub enum KindFound {
-    Known(Kind),
+pub enum NoKind {
     UnknownKind,
     UnknownSegment,
 }
 
 // The segment of a detail.
-fn segment_of(bytes: &[u8]) -> KindFound
+#[tactic(auto, using(crate::proofs::OneByte::same_byte, crate::proofs::OneByte::no_byte, crate::proofs::OneByte::more_bytes), unfolding(crate::specs::Kind::segment_named))]
+fn segment_of(bytes: &[u8]) -> Result<Kind, NoKind>
     ensures { result ≡ segment_of bytes.now }
 {
-    let segment = Field::SEGMENT.part(bytes);
-    if text::literal::equals(segment, b"A") {
-        return KindFound::Known(Kind::SegmentA);
+    match Field::SEGMENT.part(bytes) {
+        b"A" => Ok(Kind::SegmentA),
+        b"B" => Ok(Kind::SegmentB),
+        b"Z" => Ok(Kind::SegmentZ),
+        _ => Err(NoKind::UnknownSegment),
     }
-    if text::literal::equals(segment, b"B") {
-        return KindFound::Known(Kind::SegmentB);
-    }
-    if text::literal::equals(segment, b"Z") {
-        return KindFound::Known(Kind::SegmentZ);
-    }
-    KindFound::UnknownSegment
 }
 
 // The kind of a record.
-pub fn kind_of(bytes: &[u8]) -> KindFound
+#[tactic(auto, using(crate::proofs::OneByte::same_byte, crate::proofs::OneByte::no_byte, crate::proofs::OneByte::more_bytes), unfolding(crate::specs::Kind::kind_named))]
+pub fn kind_of(bytes: &[u8]) -> Result<Kind, NoKind>
     ensures { result ≡ kind_of bytes.now }
 {
-    let kind = Field::KIND.part(bytes);
-    if text::literal::equals(kind, b"3") {
-        return segment_of(bytes);
+    match Field::KIND.part(bytes) {
+        b"3" => segment_of(bytes),
+        b"1" => Ok(Kind::BatchHeader),
+        b"5" => Ok(Kind::BatchTrailer),
+        b"0" => Ok(Kind::FileHeader),
+        b"9" => Ok(Kind::FileTrailer),
+        _ => Err(NoKind::UnknownKind),
     }
-    if text::literal::equals(kind, b"1") {
-        return KindFound::Known(Kind::BatchHeader);
-    }
-    if text::literal::equals(kind, b"5") {
-        return KindFound::Known(Kind::BatchTrailer);
-    }
-    if text::literal::equals(kind, b"0") {
-        return KindFound::Known(Kind::FileHeader);
-    }
-    if text::literal::equals(kind, b"9") {
-        return KindFound::Known(Kind::FileTrailer);
-    }
-    KindFound::UnknownKind
 }

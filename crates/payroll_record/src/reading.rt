@@ -7,8 +7,9 @@ use crate::batch_trailer::BatchTrailer;
 use crate::detail::Detail;
 use crate::file_header::FileHeader;
 use crate::file_trailer::FileTrailer;
-use crate::kind::{Kind, KindFound};
+use crate::kind::{Kind, NoKind};
 
+// What reading answers. No `Result`: a record that is unknown or faulty is judged at its place like any other, and its fault comes behind that of the place.
 #[derive(Clone, Copy)]
 pub enum Reading {
     WrongWidth,
@@ -22,6 +23,7 @@ pub enum Reading {
 }
 
 // The bytes as a record of this kind.
+#[tactic(auto, unfolding(crate::specs::Reading::read_as))]
 fn read_as(kind: Kind, bytes: &[u8]) -> Reading
     ensures { result ≡ read_as kind bytes.now }
 {
@@ -37,6 +39,7 @@ fn read_as(kind: Kind, bytes: &[u8]) -> Reading
 }
 
 // Any bytes as a record, without a line end.
+#[tactic(auto, unfolding(crate::specs::Reading::read_found))]
 pub fn read(bytes: &[u8]) -> Reading
     ensures { result ≡ reading_of bytes.now }
 {
@@ -44,8 +47,8 @@ pub fn read(bytes: &[u8]) -> Reading
         return Reading::WrongWidth;
     }
     match crate::kind::kind_of(bytes) {
-        KindFound::Known(kind) => read_as(kind, bytes),
-        KindFound::UnknownKind => Reading::UnknownKind,
-        KindFound::UnknownSegment => Reading::UnknownSegment,
+        Ok(kind) => read_as(kind, bytes),
+        Err(NoKind::UnknownKind) => Reading::UnknownKind,
+        Err(NoKind::UnknownSegment) => Reading::UnknownSegment,
     }
 }

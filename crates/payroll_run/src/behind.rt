@@ -31,14 +31,13 @@ impl Running {
     fn behind_batch_header(self) -> Running
         ensures { result ≡ behind_batch_header self }
     {
-        let batch = Batch {
+        let mut next = self.counted(Stage::InBatch);
+        next.batches = totals::sum::added(self.batches, 1);
+        next.batch = Batch {
             records: 1,
             details: 0,
             sum: 0,
         };
-        let mut next = self.counted(Stage::InBatch);
-        next.batches = totals::sum::added(self.batches, 1);
-        next.batch = batch;
         next
     }
 
@@ -46,43 +45,34 @@ impl Running {
     fn behind_segment(self, stage: Stage, payments: u64, amount: u64) -> Running
         ensures { result ≡ behind_segment self stage payments amount }
     {
-        let open = self.batch;
-        let batch = Batch {
-            records: totals::sum::added(open.records, 1),
-            details: totals::sum::added(open.details, 1),
-            sum: paid(open.sum, amount),
-        };
         let mut next = self.counted(stage);
         next.payments = totals::sum::added(self.payments, payments);
         next.amount = paid(self.amount, amount);
-        next.batch = batch;
+        next.batch.details = totals::sum::added(self.batch.details, 1);
+        next.batch.sum = paid(self.batch.sum, amount);
         next
     }
 
     // Behind a detail.
+    #[tactic(auto, unfolding(crate::specs::Behind::behind_detail_as))]
     fn behind_detail(self, detail: Detail) -> Running
         ensures { result ≡ behind_detail self detail }
     {
-        let segment = detail.segment;
-        match segment {
+        match detail.segment {
             Kind::SegmentA => self.behind_segment(Stage::BehindA, 1, detail.amount),
             Kind::SegmentB => self.behind_segment(Stage::BehindB, 0, 0),
             Kind::SegmentZ => self.behind_segment(Stage::InBatch, 0, 0),
-            Kind::FileHeader => self,
-            Kind::BatchHeader => self,
-            Kind::BatchTrailer => self,
-            Kind::FileTrailer => self,
+            Kind::FileHeader | Kind::BatchHeader | Kind::BatchTrailer | Kind::FileTrailer => self,
         }
     }
 
     // Behind a record that keeps the rules.
+    #[tactic(auto, unfolding(crate::specs::Behind::behind))]
     pub fn behind(self, reading: Reading) -> Running
         ensures { result ≡ behind self reading }
     {
         match reading {
-            Reading::WrongWidth => self,
-            Reading::UnknownKind => self,
-            Reading::UnknownSegment => self,
+            Reading::WrongWidth | Reading::UnknownKind | Reading::UnknownSegment => self,
             Reading::FileHeader(header) => self.behind_header(header),
             Reading::BatchHeader(_) => self.behind_batch_header(),
             Reading::Detail(detail) => self.behind_detail(detail),

@@ -6,7 +6,7 @@ use crate::stage::Stage;
 use refusal::{Cause, Refusal};
 
 // Of the open batch: its records, its details and the sum of its payments.
-#[derive(Clone, Copy)]
+#[derive(Clone, Copy, Default)]
 pub struct Batch {
     pub records: u64,
     pub details: u64,
@@ -14,7 +14,7 @@ pub struct Batch {
 }
 
 // `batches` counts the open one too; `payments` and `amount` are of the whole file.
-#[derive(Clone, Copy)]
+#[derive(Clone, Copy, Default)]
 pub struct Running {
     pub stage: Stage,
     pub is_return: bool,
@@ -30,19 +30,7 @@ impl Running {
     pub fn open() -> Running
         ensures { result ≡ opened }
     {
-        Running {
-            stage: Stage::Start,
-            is_return: false,
-            records: 0,
-            batches: 0,
-            payments: 0,
-            amount: 0,
-            batch: Batch {
-                records: 0,
-                details: 0,
-                sum: 0,
-            },
-        }
+        Running::default()
     }
 
     // The number of the record that comes next.
@@ -56,16 +44,7 @@ impl Running {
     fn staged(self, stage: Stage) -> Running
         ensures { result ≡ staged stage self }
     {
-        let batch = self.batch;
-        Running {
-            stage,
-            is_return: self.is_return,
-            records: self.records,
-            batches: self.batches,
-            payments: self.payments,
-            amount: self.amount,
-            batch,
-        }
+        Running { stage, ..self }
     }
 
     // A refusal at the record that comes next.
@@ -90,12 +69,9 @@ impl Running {
     pub(crate) fn counted(self, stage: Stage) -> Running
         ensures { result ≡ counted stage self }
     {
-        let open = self.batch;
-        let mut batch = open;
-        batch.records = totals::sum::added(open.records, 1);
         let mut next = self.staged(stage);
         next.records = self.next_number();
-        next.batch = batch;
+        next.batch.records = totals::sum::added(self.batch.records, 1);
         next
     }
 }

@@ -1,13 +1,14 @@
 // How far a payroll file has come, and which kinds may stand next.
 ghost use Rattle.std.specs.Prelude.{◌≡◌};
-ghost use Rattle.payroll_run.specs.Stage.{first, between_batches, in_batch, placed};
+ghost use Rattle.payroll_run.specs.Stage.{in_batch, placed};
 
 use payroll_record::kind::Kind;
 use refusal::Refusal;
 
-#[derive(Clone, Copy)]
+#[derive(Clone, Copy, Default)]
 pub enum Stage {
     // Nothing has come.
+    #[default]
     Start,
     // The file header or a batch trailer came last.
     BetweenBatches,
@@ -22,48 +23,15 @@ pub enum Stage {
     Refused(Refusal),
 }
 
-// Whether a record of this kind may stand first.
-fn may_open(kind: Kind) -> bool
-    ensures { result ≡ first kind }
-{
-    match kind {
-        Kind::FileHeader => true,
-        Kind::BatchHeader => false,
-        Kind::SegmentA => false,
-        Kind::SegmentB => false,
-        Kind::SegmentZ => false,
-        Kind::BatchTrailer => false,
-        Kind::FileTrailer => false,
-    }
-}
-
-// Whether a record of this kind may stand between batches.
-fn may_part_batches(kind: Kind) -> bool
-    ensures { result ≡ between_batches kind }
-{
-    match kind {
-        Kind::FileHeader => false,
-        Kind::BatchHeader => true,
-        Kind::SegmentA => false,
-        Kind::SegmentB => false,
-        Kind::SegmentZ => false,
-        Kind::BatchTrailer => false,
-        Kind::FileTrailer => true,
-    }
-}
-
 // Whether a record of this kind may stand in a batch, where a B and a Z may or may not.
 fn may_stand_in_batch(b: bool, z: bool, kind: Kind) -> bool
     ensures { result ≡ in_batch b z kind }
 {
     match kind {
-        Kind::FileHeader => false,
-        Kind::BatchHeader => false,
-        Kind::SegmentA => true,
+        Kind::SegmentA | Kind::BatchTrailer => true,
         Kind::SegmentB => b,
         Kind::SegmentZ => z,
-        Kind::BatchTrailer => true,
-        Kind::FileTrailer => false,
+        Kind::FileHeader | Kind::BatchHeader | Kind::FileTrailer => false,
     }
 }
 
@@ -73,13 +41,12 @@ impl Stage {
         ensures { result ≡ placed self is_return kind }
     {
         match self {
-            Stage::Start => may_open(kind),
-            Stage::BetweenBatches => may_part_batches(kind),
+            Stage::Start => matches!(kind, Kind::FileHeader),
+            Stage::BetweenBatches => matches!(kind, Kind::BatchHeader | Kind::FileTrailer),
             Stage::InBatch => may_stand_in_batch(false, false, kind),
             Stage::BehindA => may_stand_in_batch(true, is_return, kind),
             Stage::BehindB => may_stand_in_batch(false, is_return, kind),
-            Stage::Ended => false,
-            Stage::Refused(_) => false,
+            Stage::Ended | Stage::Refused(_) => false,
         }
     }
 }

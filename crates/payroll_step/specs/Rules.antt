@@ -1,10 +1,9 @@
 -- What running judges of a record that was read: the faults that reading found, and the numbers that it read where others are due.
-use Rattle.std.specs.Prelude.{ℕ, List, [], ◌∷◌, ◌++◌, false}
+use Rattle.std.specs.Prelude.{ℕ, List, [], ◌∷◌, ◌++◌, false, Ok, Err}
 use Rattle.refusal.specs.declared.Cause.TheVariants.{KindUnknown, WrongWidth}
-use Rattle.refusal.specs.declared.Fault.{Fault}
-use Rattle.refusal.specs.declared.Fault.TheVariants.{Nothing, At}
+use Rattle.refusal.specs.Fault.{Judged}
 use Rattle.refusal.specs.Rules.{Rule, rule_at}
-use Rattle.text.specs.declared.number.Number.{Number}
+use Rattle.text.specs.Number.{Number}
 use Rattle.payroll_record.specs.declared.kind.Kind.{Kind}
 use Rattle.payroll_record.specs.declared.kind.Kind.TheVariants.{FileHeader, BatchHeader, BatchTrailer, FileTrailer}
 use Rattle.payroll_record.specs.declared.reading.Reading.{Reading}
@@ -23,9 +22,9 @@ use Rattle.payroll_run.specs.declared.running.Running.{Running}
 use Rattle.payroll_step.specs.Due.{place_rule, Due, due_in_detail, due_of, limits_of}
 
 -- a fault that reading found among the rules that look at the record alone, as a rule of the list
-unfoldable pub found_rules : Fault → List Rule
-found_rules Nothing = []
-found_rules (At cause column) = rule_at cause column false ∷ []
+unfoldable pub found_rules : Judged → List Rule
+found_rules (Ok none) = []
+found_rules (Err fault) = rule_at fault.cause fault.column false ∷ []
 
 -- each number that is due, and the one that was read in its place
 unfoldable pub due_rules : List Due → List Number → List Rule
@@ -43,7 +42,7 @@ abbrev pub placed_rules : Running → Kind → List Rule → List Due → List N
 placed_rules st kind front dues numbers behind = place_rule st kind ∷ (front ++ (due_rules dues numbers ++ behind))
 
 -- that list as reading answers it: of the rules in front the first that is broken, if any
-abbrev pub judged_rules : Running → Kind → Fault → List Due → List Number → List Rule → List Rule
+abbrev pub judged_rules : Running → Kind → Judged → List Due → List Number → List Rule → List Rule
 judged_rules st kind front dues numbers behind = placed_rules st kind (found_rules front) dues numbers behind
 
 -- the rules of a reading at its place, in order

@@ -1,7 +1,7 @@
 -- What one record, taken at its place, makes of the running state.
+use Rattle.std.specs.Prelude.{Ok, Err}
 use Rattle.refusal.specs.declared.Cause.TheVariants.{BytesAfterTheEnd}
-use Rattle.refusal.specs.declared.Fault.{Fault}
-use Rattle.refusal.specs.declared.Fault.TheVariants.{Nothing, At}
+use Rattle.refusal.specs.Fault.{Judged}
 use Rattle.refusal.specs.Rules.{first_broken}
 use Rattle.payroll_record.specs.declared.reading.Reading.{Reading}
 use Rattle.payroll_run.specs.declared.stage.Stage.{Stage}
@@ -12,9 +12,9 @@ use Rattle.payroll_run.specs.Behind.{behind}
 use Rattle.payroll_step.specs.Rules.{rules_of}
 
 -- behind the record, or refused at the first fault
-unfoldable pub behind_or_refused : Running → Reading → Fault → Running
-behind_or_refused st reading Nothing = behind st reading
-behind_or_refused st reading (At cause column) = refused_at cause column st
+unfoldable pub behind_or_refused : Running → Reading → Judged → Running
+behind_or_refused st reading (Ok none) = behind st reading
+behind_or_refused st reading (Err fault) = refused_at fault.cause fault.column st
 
 abbrev pub judged_of : Running → Reading → Running
 judged_of st reading = behind_or_refused st reading (first_broken (rules_of st reading))

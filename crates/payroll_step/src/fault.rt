@@ -1,4 +1,7 @@
 // What running judges of a record that was read: its place, the faults that reading found, and the numbers that are due.
+// The rules of a record are rows in a row; the proofs go by the law of those, and open the definitions of the rows.
+#![tactic(auto, using(refusal::proofs::Rules::in_a_row, crate::proofs::Found::found), unfolding(refusal::specs::Rules::first_broken, crate::specs::Rules::rules_of, crate::specs::Rules::due_rules))]
+
 ghost use Rattle.std.specs.Prelude.{◌≡◌, [], ◌∷◌};
 ghost use Rattle.refusal.specs.Rules.{first_broken};
 ghost use Rattle.payroll_step.specs.Due.{place_rule};
@@ -20,95 +23,69 @@ const LAST_BATCH: u64 = 9998;
 const TOO_LARGE: u64 = 10_000_000_000_000_000_000;
 
 // The fault of a kind that may not stand here.
-fn place_fault(state: Running, kind: Kind) -> Fault
+fn place_fault(state: Running, kind: Kind) -> Result<(), Fault>
     ensures { result ≡ first_broken (place_rule state kind ∷ []) }
 {
-    let stage = state.stage;
-    refusal::rule(
-        Cause::KindNotAllowedHere,
-        0,
-        stage.allows(state.is_return, kind),
-    )
+    let allowed = state.stage.allows(state.is_return, kind);
+    refusal::rule(Cause::KindNotAllowedHere, 0, allowed)
 }
 
 // A batch header is numbered one more than the batches before it, at most 9998.
-fn batch_header_fault(state: Running, header: BatchHeader) -> Fault
+fn batch_header_fault(state: Running, header: BatchHeader) -> Result<(), Fault>
     ensures { result ≡ first_broken (rules_of state (Reading.BatchHeader header)) }
 {
     let due = totals::sum::added(state.batches, 1);
-    let front = header.front;
-    let batch = header.batch;
-    place_fault(state, Kind::BatchHeader)
-        .earlier(front)
-        .earlier(Field::BATCH.should_be(batch, due, Cause::SequenceWrong))
-        .earlier(refusal::rule(Cause::SequenceWrong, 4, due <= LAST_BATCH))
+    place_fault(state, Kind::BatchHeader)?;
+    header.front?;
+    Field::BATCH.should_be(header.batch, due, Cause::SequenceWrong)?;
+    refusal::rule(Cause::SequenceWrong, 4, due <= LAST_BATCH)
 }
 
 // A detail has the open batch's number and its own, from 1 in each batch.
-fn detail_fault(state: Running, detail: Detail) -> Fault
+fn detail_fault(state: Running, detail: Detail) -> Result<(), Fault>
     ensures { result ≡ first_broken (rules_of state (Reading.Detail detail)) }
 {
-    let open = state.batch;
-    let due = totals::sum::added(open.details, 1);
-    let segment = detail.segment;
-    let front = detail.front;
-    let batch = detail.batch;
-    let number = detail.number;
-    let rest = detail.rest;
-    place_fault(state, segment)
-        .earlier(front)
-        .earlier(Field::BATCH.should_be(batch, state.batches, Cause::SequenceWrong))
-        .earlier(Detail::NUMBER.should_be(number, due, Cause::SequenceWrong))
-        .earlier(rest)
+    let due = totals::sum::added(state.batch.details, 1);
+    place_fault(state, detail.segment)?;
+    detail.front?;
+    Field::BATCH.should_be(detail.batch, state.batches, Cause::SequenceWrong)?;
+    Detail::NUMBER.should_be(detail.number, due, Cause::SequenceWrong)?;
+    detail.rest
 }
 
 // A batch trailer counts the batch's records, itself included, and sums its payments.
-fn batch_trailer_fault(state: Running, trailer: BatchTrailer) -> Fault
+fn batch_trailer_fault(state: Running, trailer: BatchTrailer) -> Result<(), Fault>
     ensures { result ≡ first_broken (rules_of state (Reading.BatchTrailer trailer)) }
 {
-    let open = state.batch;
-    let records = totals::sum::added(open.records, 1);
-    let front = trailer.front;
-    let batch = trailer.batch;
-    let count = trailer.count;
-    let sum = trailer.sum;
-    place_fault(state, Kind::BatchTrailer)
-        .earlier(front)
-        .earlier(Field::BATCH.should_be(batch, state.batches, Cause::SequenceWrong))
-        .earlier(BatchTrailer::COUNT.should_be(count, records, Cause::TrailerDisagrees))
-        .earlier(BatchTrailer::SUM.should_be(sum, open.sum, Cause::TrailerDisagrees))
+    let records = totals::sum::added(state.batch.records, 1);
+    place_fault(state, Kind::BatchTrailer)?;
+    trailer.front?;
+    Field::BATCH.should_be(trailer.batch, state.batches, Cause::SequenceWrong)?;
+    BatchTrailer::COUNT.should_be(trailer.count, records, Cause::TrailerDisagrees)?;
+    BatchTrailer::SUM.should_be(trailer.sum, state.batch.sum, Cause::TrailerDisagrees)
 }
 
 // The file trailer counts the batches and all records, itself included; then the file's amount.
-fn file_trailer_fault(state: Running, trailer: FileTrailer) -> Fault
+fn file_trailer_fault(state: Running, trailer: FileTrailer) -> Result<(), Fault>
     ensures { result ≡ first_broken (rules_of state (Reading.FileTrailer trailer)) }
 {
-    let front = trailer.front;
-    let batches = trailer.batches;
-    let records = trailer.records;
-    place_fault(state, Kind::FileTrailer)
-        .earlier(front)
-        .earlier(FileTrailer::BATCHES.should_be(batches, state.batches, Cause::TrailerDisagrees))
-        .earlier(FileTrailer::RECORDS.should_be(
-            records,
-            state.next_number(),
-            Cause::TrailerDisagrees,
-        ))
-        .earlier(refusal::rule(Cause::TrailerDisagrees, 0, state.amount < TOO_LARGE))
+    let records = state.next_number();
+    place_fault(state, Kind::FileTrailer)?;
+    trailer.front?;
+    FileTrailer::BATCHES.should_be(trailer.batches, state.batches, Cause::TrailerDisagrees)?;
+    FileTrailer::RECORDS.should_be(trailer.records, records, Cause::TrailerDisagrees)?;
+    refusal::rule(Cause::TrailerDisagrees, 0, state.amount < TOO_LARGE)
 }
 
 // The first fault of what was read, at its place.
-pub(crate) fn fault(state: Running, reading: Reading) -> Fault
+pub(crate) fn fault(state: Running, reading: Reading) -> Result<(), Fault>
     ensures { result ≡ first_broken (rules_of state reading) }
 {
     match reading {
-        Reading::WrongWidth => Fault::At(Cause::WrongWidth, 0),
-        Reading::UnknownKind => Fault::At(Cause::KindUnknown, 8),
-        Reading::UnknownSegment => Fault::At(Cause::KindUnknown, 14),
-        Reading::FileHeader(header) => {
-            let fault = header.fault;
-            place_fault(state, Kind::FileHeader).earlier(fault)
-        }
+        Reading::WrongWidth => refusal::rule(Cause::WrongWidth, 0, false),
+        Reading::UnknownKind => refusal::rule(Cause::KindUnknown, 8, false),
+        Reading::UnknownSegment => refusal::rule(Cause::KindUnknown, 14, false),
+        Reading::FileHeader(header) => place_fault(state, Kind::FileHeader).and(header.fault),
         Reading::BatchHeader(header) => batch_header_fault(state, header),
         Reading::Detail(detail) => detail_fault(state, detail),
         Reading::BatchTrailer(trailer) => batch_trailer_fault(state, trailer),

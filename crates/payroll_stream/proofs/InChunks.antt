@@ -3,14 +3,15 @@
 use Prim.Native.Nat.{ℕ}
 use mathlib.Core.Path.{◌≡◌, refl, ◌∙◌, ap}
 use mathlib.Core.List.{List, [], ◌∷◌, foldl}
+use Rattle.std.specs.Prelude.{Some}
 use Rattle.lines.specs.Lines.{cut}
 use Rattle.chunks.specs.Chunks.{Run, start_of, ran_over, joined_chunks}
 use Rattle.chunks.proofs.Held.{held_back}
 use Rattle.chunks.proofs.Streams.{in_chunks}
 use Rattle.payroll_run.specs.declared.running.Running.{Running}
 use Rattle.payroll_run.specs.State.{opened}
-use Rattle.payroll_file.specs.PayrollFile.{line_of, lines_of, end_of, check_of}
-use Rattle.payroll_stream.specs.declared.Progress.TheVariants.{Answered}
+use Rattle.payroll_file.specs.PayrollFile.{line_of, end_of, check_of}
+use Rattle.payroll_file.proofs.Steps.{as_fold}
 use Rattle.payroll_stream.specs.Stream.{going_on, open_of, taken_at, taken_of, ended_at, ended_of, answer_at, answer_of}
 use Rattle.payroll_stream.proofs.NoFurther.{no_further, end_no_further}
 
@@ -22,23 +23,17 @@ as_runs run (c ∷ cs) =
     ap (λ h. foldl taken_of (going_on (ran_over line_of (record { state = run.state; held = h }) c)) cs) (held_back run.held) ∙
     as_runs (ran_over line_of run c) cs
 
--- and pieces one after the other are a fold
-as_fold : (st : Running) (ps : List (List ℕ)) → foldl line_of st ps ≡ lines_of st ps
-unfolding lines_of
-as_fold st [] = refl
-as_fold st (p ∷ ps) = as_fold (line_of st p) ps
-
 -- the answer at the end of a run
-at_end : (run : Run Running) → answer_of (ended_of (going_on run)) ≡ Answered (end_of run.state run.held)
+at_end : (run : Run Running) → answer_of (ended_of (going_on run)) ≡ Some (end_of run.state run.held)
 unfolding ended_at answer_at
-at_end run = ap (λ h. Answered (end_of run.state h)) (held_back run.held)
+at_end run = ap (λ h. Some (end_of run.state h)) (held_back run.held)
 
 -- "open, chunks, end" is the check of the bytes joined, however they were cut
-pub chunks_as_whole : (chunks : List (List ℕ)) → answer_of (ended_of (foldl taken_of open_of chunks)) ≡ Answered (check_of (joined_chunks chunks))
+pub chunks_as_whole : (chunks : List (List ℕ)) → answer_of (ended_of (foldl taken_of open_of chunks)) ≡ Some (check_of (joined_chunks chunks))
 chunks_as_whole chunks =
     let run = foldl (ran_over line_of) (start_of opened) chunks in
     let file = cut (joined_chunks chunks) in
     ap (λ s. answer_of (ended_of s)) (as_runs (start_of opened) chunks) ∙
     at_end run ∙
-    ap Answered (in_chunks line_of no_further end_of end_no_further opened chunks) ∙
-    ap (λ st. Answered (end_of st file.rest)) (as_fold opened file.pieces)
+    ap Some (in_chunks line_of no_further end_of end_no_further opened chunks) ∙
+    ap (λ st. Some (end_of st file.rest)) (as_fold opened file.pieces)

@@ -13,7 +13,7 @@ use Rattle.text.specs.Literal.{same_bytes}
 use Rattle.lines.specs.Lines.{ends_in_cr, without_last}
 use Rattle.chunks.specs.Unfinished.{clipped}
 use Rattle.chunks.proofs.Clipped.{clipped_all, clipped_exactly, clipped_ends, clipped_record}
-use Rattle.chunks.proofs.Streams.{LooksNoFurther}
+use Rattle.chunks.specs.Chunks.{LooksNoFurther}
 use Rattle.payroll_record.specs.declared.reading.Reading.TheVariants.{WrongWidth}
 use Rattle.payroll_record.specs.Reading.{read_found, reading_of}
 use Rattle.payroll_record.specs.Kind.{kind_of}

@@ -2,13 +2,15 @@
 ghost use Rattle.std.specs.Prelude.{◌≡◌};
 ghost use Rattle.payroll_stream.specs.Feeding.{open_feeding, fed_of, closed_with, answer_of};
 
-use crate::{Progress, behind_end, so_far};
+use crate::{behind_end, so_far};
+use payroll_file::answer::Accepted;
 use payroll_run::running::Running;
+use refusal::Progress;
 
 #[derive(Clone, Copy)]
 pub struct Feeding {
     pub state: Running,
-    pub progress: Progress,
+    pub progress: Progress<Accepted>,
 }
 
 impl Feeding {
@@ -18,51 +20,46 @@ impl Feeding {
     {
         Feeding {
             state: Running::open(),
-            progress: Progress::GoingOn,
+            progress: None,
         }
     }
 
     // Takes the next record, without its line end.
+    #[tactic(auto, unfolding(crate::specs::Feeding::fed_at))]
     pub fn feed(self, bytes: &[u8]) -> Feeding
         ensures { result ≡ fed_of self bytes.now }
     {
-        let state = self.state;
-        let progress = self.progress;
-        match progress {
-            Progress::GoingOn => Feeding {
-                state: payroll_step::took(state, payroll_record::reading::read(bytes)),
-                progress: Progress::GoingOn,
+        match self.progress {
+            None => Feeding {
+                state: payroll_step::took(self.state, payroll_record::reading::read(bytes)),
+                ..self
             },
-            Progress::Answered(answer) => Feeding {
-                state,
-                progress: Progress::Answered(behind_end(state, answer)),
+            Some(answer) => Feeding {
+                progress: Some(behind_end(self.state, answer)),
+                ..self
             },
         }
     }
 
     // No record comes any more; these bytes stand behind the last line end.
+    #[tactic(auto, unfolding(crate::specs::Feeding::closed_at))]
     pub fn close(self, rest: &[u8]) -> Feeding
         ensures { result ≡ closed_with self rest.now }
     {
-        let state = self.state;
-        let progress = self.progress;
-        match progress {
-            Progress::Answered(_) => self,
-            Progress::GoingOn => Feeding {
-                state,
-                progress: Progress::Answered(payroll_file::file::answer_with_rest(state, rest)),
+        match self.progress {
+            Some(_) => self,
+            None => Feeding {
+                progress: Some(payroll_file::file::answer_with_rest(self.state, rest)),
+                ..self
             },
         }
     }
 
     // The answer so far.
-    pub fn answer(self) -> Progress
+    #[tactic(auto, unfolding(crate::specs::Stream::answer_at))]
+    pub fn answer(self) -> Progress<Accepted>
         ensures { result ≡ answer_of self }
     {
-        let progress = self.progress;
-        match progress {
-            Progress::Answered(_) => progress,
-            Progress::GoingOn => so_far(self.state),
-        }
+        self.progress.or(so_far(self.state))
     }
 }

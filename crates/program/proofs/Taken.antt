@@ -1,11 +1,8 @@
--- A stream that has taken some chunks, over any way to take one: at the start it has taken none, and each chunk is one more.
+-- A stream that has taken some chunks: at the start it has taken none, and each chunk is one more.
 use Prim.Native.Nat.{ℕ}
 use mathlib.Core.Path.{◌≡◌, sym, ◌∙◌, ap}
-use mathlib.Core.List.{List, [], ◌∷◌, ◌++◌, foldl, foldl-append}
-
-pub record Taken {S : Type 0} (take : S → List ℕ → S) (start stream : S) : Type 0 where
-  pub chunks : List (List ℕ)
-  pub so_far_lem : stream ≡ foldl take start chunks
+use mathlib.Core.List.{List, [], ◌∷◌, ◌++◌, foldl-append}
+use Rattle.program.specs.Stream.{Taken}
 
 module _ {S : Type 0} (take : S → List ℕ → S) (start : S) where
   pub none_taken : {stream : S} → stream ≡ start → Taken take start stream

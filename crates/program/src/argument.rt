@@ -2,23 +2,8 @@
 ghost use Rattle.std.specs.Prelude.{◌≡◌, length};
 ghost use Rattle.program.specs.Argument.{argument_of, GivenIn, ThreeIn};
 
+use crate::mistake::Mistake;
 use std::env::{Env, FillError};
-
-// What reading an argument answers.
-#[derive(Clone, Copy)]
-pub enum Argument {
-    // So many bytes, at the start of the room.
-    Bytes(usize),
-    // It is longer than the room.
-    TooLong,
-}
-
-// The same of three arguments.
-#[derive(Clone, Copy)]
-pub enum Three {
-    Bytes(usize, usize, usize),
-    TooLong,
-}
 
 // Room for every argument: Linux hands a program none of more than 131,071 bytes. The `ensures` gives only the length, which lending it as a slice needs.
 pub fn room() -> [u8; 131072]
@@ -31,13 +16,14 @@ pub fn room() -> [u8; 131072]
 const NAME_TOO_LONG: u64 = 36;
 
 // The meaning of what the system answered, with the error that it left: so many bytes. It counts none where the argument is too long, and the error tells.
-pub fn argument_of(size: usize, error: u64) -> Argument
+// The error is a number: what may not change (`argument_of`).
+pub fn argument_of(size: usize, error: u64) -> Result<usize, Mistake>
     ensures { result ≡ argument_of size error }
 {
     if error == NAME_TOO_LONG {
-        return Argument::TooLong;
+        return Err(Mistake::TooLong);
     }
-    Argument::Bytes(size)
+    Ok(size)
 }
 
 // How many arguments there are, with the program's own name.
@@ -51,8 +37,8 @@ pub fn count(rt: &HostRuntime) -> usize {
     usize::MAX
 }
 
-// Reads an argument into `room`; one that is missing has no bytes.
-pub fn read(rt: &HostRuntime, number: usize, room: &mut [u8]) -> Argument
+// Reads an argument into the start of `room`, and answers how many bytes it has; one that is missing has none.
+pub fn read(rt: &HostRuntime, number: usize, room: &mut [u8]) -> Result<usize, Mistake>
     ensures { GivenIn room.new result }
 {
     match rt.arg(number, room) {
@@ -63,17 +49,16 @@ pub fn read(rt: &HostRuntime, number: usize, room: &mut [u8]) -> Argument
 }
 
 // Reads the arguments EDITION, or what stands in its place, FILE and OUT, each into its room.
-pub fn read_three(rt: &HostRuntime, edition: &mut [u8], file: &mut [u8], out: &mut [u8]) -> Three
+pub fn read_three(
+    rt: &HostRuntime,
+    edition: &mut [u8],
+    file: &mut [u8],
+    out: &mut [u8],
+) -> Result<(usize, usize, usize), Mistake>
     ensures { ThreeIn edition.new file.new out.new result }
 {
-    let Argument::Bytes(first) = read(rt, 1, edition) else {
-        return Three::TooLong;
-    };
-    let Argument::Bytes(second) = read(rt, 2, file) else {
-        return Three::TooLong;
-    };
-    let Argument::Bytes(third) = read(rt, 3, out) else {
-        return Three::TooLong;
-    };
-    Three::Bytes(first, second, third)
+    let first = read(rt, 1, edition)?;
+    let second = read(rt, 2, file)?;
+    let third = read(rt, 3, out)?;
+    Ok((first, second, third))
 }

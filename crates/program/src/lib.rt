@@ -1,6 +1,8 @@
-// What the programs share: their arguments, and what is said where there is no verdict.
+// What the programs share: their arguments, and what is said of their work, and how a file is read in chunks.
 #![tactic(auto)]
 
 pub mod argument;
 pub mod mistake;
+pub mod outcome;
 mod reason;
+pub mod stream;

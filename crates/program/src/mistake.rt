@@ -5,7 +5,7 @@ ghost use Rattle.program.specs.Sentence.{arguments_of, failed_of, sentence_of};
 
 use crate::reason;
 use files::writing;
-use files::writing::STDERR;
+use files::writing::Standard;
 use wording::put::text;
 
 // A program that can be called wrongly: `payroll` takes any names.
@@ -102,6 +102,7 @@ fn put_failed(failed: Failed, out: &mut [u8], at: usize) -> usize
     }
 }
 
+// No `Display`: what may not change is that `put` promises each byte in the caller's buffer (`Puts`).
 // Puts the sentence of a mistake behind the first `at` bytes, and answers how many bytes stand there then.
 pub fn put(mistake: Mistake, out: &mut [u8], at: usize) -> usize
     ensures { Puts (sentence_of mistake) out.old at result out.new }
@@ -137,7 +138,7 @@ pub fn put(mistake: Mistake, out: &mut [u8], at: usize) -> usize
 fn say(rt: &HostRuntime, mistake: Mistake, sentence: &[u8])
     requires { sentence.now ≡ sentence_of mistake }
 {
-    let _written = writing::write_to(rt, STDERR, sentence);
+    let _written = writing::write_to(rt, Standard::Error, sentence);
 }
 
 // Says a mistake on standard error, by one call.

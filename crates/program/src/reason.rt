@@ -6,6 +6,7 @@ use wording::line::line;
 use wording::put::text;
 
 // The errors of disks and of what is written to; of any other its number.
+#[tactic(auto, unfolding(crate::specs::Reason::other_reason))]
 fn put_other(error: u64, out: &mut [u8], at: usize) -> usize
     ensures { Puts (other_reason error) out.old at result out.new }
 {
@@ -20,6 +21,7 @@ fn put_other(error: u64, out: &mut [u8], at: usize) -> usize
 }
 
 // The errors of names come first.
+#[tactic(auto, unfolding(crate::specs::Reason::reason_of))]
 pub(crate) fn put(error: u64, out: &mut [u8], at: usize) -> usize
     ensures { Puts (reason_of error) out.old at result out.new }
 {

@@ -1,9 +1,7 @@
 -- Rules in document 01's order, and "the first fault" among them.
 use Rattle.std.specs.Prelude.{ℕ, ◌≡◌, List, [], ◌∷◌, ◌++◌, Bool, true, false, ◌&&◌}
 use Rattle.refusal.specs.declared.Cause.{Cause}
-use Rattle.refusal.specs.declared.Fault.{Fault}
-use Rattle.refusal.specs.declared.Fault.TheVariants.{Nothing}
-use Rattle.refusal.specs.Fault.{rule_of, earlier_of}
+use Rattle.refusal.specs.Fault.{Judged, nothing, rule_of, earlier_of}
 
 -- a rule as it stands for one record: the cause and the column that it gives, and whether it holds
 pub record Rule : Type 0 where
@@ -15,8 +13,8 @@ abbrev pub rule_at : Cause → ℕ → Bool → Rule
 rule_at cause column holds = record { cause = cause; column = column; holds = holds }
 
 -- the first rule that does not hold
-unfoldable pub first_broken : List Rule → Fault
-first_broken [] = Nothing
+unfoldable pub first_broken : List Rule → Judged
+first_broken [] = nothing
 first_broken (r ∷ rs) = earlier_of (rule_of r.cause r.column r.holds) (first_broken rs)
 
 -- every rule holds

@@ -50,12 +50,18 @@ impl Refusal {
     }
 }
 
-// What judging one record finds: no fault, or a cause and its column.
+// What is wrong with one record: the cause, and its column. What judges one answers `Result<(), Fault>`.
 #[derive(Clone, Copy)]
-pub enum Fault {
-    Nothing,
-    At(Cause, u64),
+pub struct Fault {
+    pub cause: Cause,
+    pub column: u64,
 }
+
+// What a question answers: what it found, or why it refuses.
+pub type Answer<A> = Result<A, Refusal>;
+
+// The same while a file comes: none as long as nothing is refused and the end has not come.
+pub type Progress<A> = Option<Answer<A>>;
 
 // The causes in the list's order.
 const LIST: [Cause; 18] = [
@@ -80,7 +86,7 @@ const LIST: [Cause; 18] = [
 ];
 
 impl Cause {
-    // The number that the list gives it.
+    // The number that the list gives it. A method and no `From`: the rows and `answers` cite its contract under this name.
     pub fn number(self) -> u64
         ensures { result ≡ number_of self }
     {
@@ -106,41 +112,33 @@ impl Cause {
         }
     }
 
-    // The cause that the list has under a number; its first where it has none.
+    // The cause that the list has under a number; its first where it has none, so that any number is taken: a `TryFrom` would refuse some.
     pub fn numbered(number: u64) -> Cause
         ensures { result ≡ cause_numbered number }
     {
-        let mut row = 0;
-        while row < LIST.len() {
-            let cause = LIST[row];
+        for cause in LIST {
             if cause.number() == number {
                 return cause;
             }
-            row += 1;
         }
         Cause::EditionUnknown
     }
 }
 
 // The fault of one rule: none where it holds.
-pub fn rule(cause: Cause, column: u64, holds: bool) -> Fault
+pub fn rule(cause: Cause, column: u64, holds: bool) -> Result<(), Fault>
     ensures { result ≡ rule_of cause column holds }
 {
     if holds {
-        Fault::Nothing
+        Ok(())
     } else {
-        Fault::At(cause, column)
+        Err(Fault { cause, column })
     }
 }
 
-impl Fault {
-    // The first of two faults: this one, unless it is none.
-    pub fn earlier(self, second: Fault) -> Fault
-        ensures { result ≡ earlier_of self second }
-    {
-        match self {
-            Fault::Nothing => second,
-            Fault::At(cause, column) => Fault::At(cause, column),
-        }
-    }
+// The first of two faults: that of the first, unless it has none.
+pub fn earlier(first: Result<(), Fault>, second: Result<(), Fault>) -> Result<(), Fault>
+    ensures { result ≡ earlier_of first second }
+{
+    first.and(second)
 }

@@ -2,70 +2,85 @@
 #![tactic(auto)]
 
 ghost use Rattle.std.specs.Prelude.{◌≡◌, ◌≤◌};
-ghost use Rattle.text.specs.Part.{PartOf, AtPositions};
+ghost use Rattle.text.specs.Part.{PartOf};
 ghost use Rattle.sale_field.specs.Field.{numbered, offered, field_of, place_of_field, refusal_of};
 
+use card_content::content::Content;
+use card_content::field::Field;
 use card_sale::cv::Cv;
 use refusal::{Cause, Refusal};
+use text::literal;
+use text::part::part_of;
 
-// Whether a field is handed back, or why not.
-#[derive(Clone, Copy)]
-pub enum FieldAnswer {
-    Offered,
-    Refused(Refusal),
-}
-
-// Where fields 1 to 26 of a CV end: they stand side by side, the first behind nothing.
-const ENDS: [usize; 27] = [
-    0, 2, 17, 29, 37, 43, 44, 52, 53, 54, 65, 76, 87, 106, 108, 110, 122, 133, 144, 155, 158, 164,
-    175, 187, 190, 193, 199,
+// Fields 1 to 26 of a CV.
+const FIELDS: [Field; 26] = [
+    Field(1, 2, Content::Text),
+    Cv::STORE,
+    Cv::NSU,
+    Cv::DATE,
+    Cv::TIME,
+    Cv::LAUNCH_TYPE,
+    Cv::LAUNCH_DATE,
+    Cv::PRODUCT,
+    Cv::CAPTURE,
+    Cv::SALE_GROSS,
+    Cv::SALE_DISCOUNT,
+    Cv::SALE_NET,
+    Cv::CARD,
+    Cv::INSTALMENT,
+    Cv::INSTALMENTS,
+    Cv::INSTALMENT_NSU,
+    Cv::INSTALMENT_GROSS,
+    Cv::INSTALMENT_DISCOUNT,
+    Cv::INSTALMENT_NET,
+    Cv::BANK,
+    Cv::BRANCH,
+    Cv::ACCOUNT,
+    Cv::AUTHORISATION,
+    Cv::BRAND,
+    Cv::PRODUCT_CODE,
+    Cv::NSEQ,
 ];
 
-// The part of a record that is the field with such a number.
-fn part_numbered(bytes: &[u8], number: u64) -> &[u8]
+// The field with such a number.
+fn numbered(number: u64) -> Field
     requires { (1 ≤ number) × (number ≤ 26) }
-    ensures { AtPositions (numbered number).0 (numbered number).1 bytes.entry result }
+    ensures { result ≡ numbered number }
 {
-    let at = number as usize;
-    let before = ENDS[at - 1];
-    text::part::part_of(before + 1, ENDS[at], bytes)
+    FIELDS[number as usize - 1]
 }
 
-// Whether the field with this number is offered of this record: 4, then 6, then 14.
-pub fn field_answer(bytes: &[u8], number: u64) -> FieldAnswer
+// Whether a number is that of a field that may be handed back.
+#[tactic(auto, using(std::proofs::lemmas::Bool::Decides::nat_tests))]
+fn is_offered(number: u64) -> bool
+    ensures { result ≡ offered number }
+{
+    1 <= number && number <= 26 && number != 13
+}
+
+// Whether the field with this number is offered of this record, or why not: 4, then 6, then 14.
+#[tactic(auto, using(std::proofs::lemmas::Bool::Decides::nat_tests), unfolding(crate::specs::Field::refusal_of))]
+pub fn field_answer(bytes: &[u8], number: u64) -> Result<(), Refusal>
     ensures { result ≡ refusal_of bytes.now number }
 {
-    if !text::literal::equals(text::part::part_of(1, 2, bytes), b"CV") {
-        return FieldAnswer::Refused(Refusal {
+    if !literal::equals(part_of(1, 2, bytes), b"CV") {
+        return Err(Refusal {
             cause: Cause::KindUnknown,
             record: 1,
             column: 1,
         });
     }
     if bytes.len() != Cv::WIDTH {
-        return FieldAnswer::Refused(Refusal {
+        return Err(Refusal {
             cause: Cause::WrongWidth,
             record: 1,
             column: 0,
         });
     }
-    if is_offered(number) {
-        return FieldAnswer::Offered;
+    if !is_offered(number) {
+        return Err(Refusal::nowhere(Cause::FieldNotOffered));
     }
-    FieldAnswer::Refused(Refusal::nowhere(Cause::FieldNotOffered))
-}
-
-// Whether a number is that of a field that may be handed back.
-fn is_offered(number: u64) -> bool
-    ensures { result ≡ offered number }
-{
-    if number < 1 {
-        return false;
-    }
-    if 26 < number {
-        return false;
-    }
-    number != 13
+    Ok(())
 }
 
 // The part of the record that is the field; an empty part where it is refused.
@@ -73,8 +88,8 @@ pub fn field(bytes: &[u8], number: u64) -> &[u8]
     ensures { PartOf bytes.entry (place_of_field bytes.now number) (field_of bytes.now number) result }
 {
     match field_answer(bytes, number) {
-        FieldAnswer::Offered => part_numbered(bytes, number),
-        FieldAnswer::Refused(_) => &bytes[..0],
+        Ok(()) => numbered(number).part(bytes),
+        Err(_) => &bytes[..0],
     }
 }
 
@@ -83,10 +98,7 @@ pub fn place(bytes: &[u8], number: u64) -> usize
     ensures { result ≡ place_of_field bytes.now number }
 {
     match field_answer(bytes, number) {
-        FieldAnswer::Offered => {
-            let at = number as usize;
-            ENDS[at - 1]
-        }
-        FieldAnswer::Refused(_) => 0,
+        Ok(()) => numbered(number).0 - 1,
+        Err(_) => 0,
     }
 }

@@ -4,14 +4,10 @@
 #![tactic(auto)]
 
 use card_program::verdict::Lines;
-use program::argument::{Argument, Three};
 use program::mistake::{Mistake, Program};
 use program::{argument, mistake};
+use sheet_program::read::SheetOutcome;
 use sheet_program::{convert, read, verdict, work};
-
-fn tell_usage(rt: &HostRuntime) {
-    mistake::tell(rt, Mistake::Usage(Program::Sheet));
-}
 
 fn is_convert(argument: &[u8]) -> bool {
     text::literal::equals(argument, b"--convert")
@@ -21,46 +17,41 @@ fn is_convert(argument: &[u8]) -> bool {
 fn save_sheet(rt: &HostRuntime, first: &[u8], file: &[u8], out: &[u8]) {
     if is_convert(first) {
         verdict::print(rt, convert::convert(rt, file, out));
-        return;
+    } else {
+        card_program::verdict::print(rt, Lines::Sales, work::work(rt, first, file, out));
     }
-    card_program::verdict::print(rt, Lines::Sales, work::work(rt, first, file, out));
 }
 
 // Saves a sheet of the file that the second argument names in the one that the third does.
-fn save_named(rt: &HostRuntime) {
+fn save_named(rt: &HostRuntime) -> Result<(), Mistake> {
     let mut first = argument::room();
     let mut file = io::buffer();
     let mut out = io::buffer();
-    let Three::Bytes(a, b, c) = argument::read_three(rt, &mut first, &mut file, &mut out) else {
-        mistake::tell(rt, Mistake::TooLong);
-        return;
-    };
+    let (a, b, c) = argument::read_three(rt, &mut first, &mut file, &mut out)?;
     save_sheet(rt, &first[..a], &file[..b], &out[..c]);
+    Ok(())
 }
 
-// Prints the numbers of a sheet; `--convert` alone is no name.
-fn print_sheet(rt: &HostRuntime, file: &[u8]) {
-    if is_convert(file) {
-        tell_usage(rt);
-        return;
-    }
-    verdict::print(rt, read::read(rt, file));
-}
-
-// Prints the numbers of the sheet that the first argument names.
-fn print_named(rt: &HostRuntime) {
+// Reads the sheet that the first argument names; `--convert` alone is no name.
+fn read_named(rt: &HostRuntime) -> SheetOutcome {
     let mut file = io::buffer();
-    let Argument::Bytes(size) = argument::read(rt, 1, &mut file) else {
-        mistake::tell(rt, Mistake::TooLong);
-        return;
-    };
-    print_sheet(rt, &file[..size]);
+    let size = argument::read(rt, 1, &mut file)?;
+    if is_convert(&file[..size]) {
+        return Err(Mistake::Usage(Program::Sheet));
+    }
+    read::read(rt, &file[..size])
 }
 
 fn main(rt: HostRuntime) {
-    match argument::count(&rt) {
-        2 => print_named(&rt),
+    let mistaken = match argument::count(&rt) {
+        2 => {
+            verdict::print(&rt, read_named(&rt));
+            Ok(())
+        }
         4 => save_named(&rt),
-        _ => tell_usage(&rt),
+        _ => Err(Mistake::Usage(Program::Sheet)),
+    };
+    if let Err(mistake) = mistaken {
+        mistake::tell(&rt, mistake);
     }
 }

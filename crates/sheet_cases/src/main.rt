@@ -2,99 +2,84 @@
 // the sheets of card files, first the outside cases and then our own. Our own tell the whole output in hex, the outside ones its hash.
 #![tactic(auto)]
 
-ghost use Rattle.std.specs.Prelude.{◌+◌, ◌≤◌, min, length};
-
-use cases::cursor::EDITION_BYTES;
-use cases::{cursor, file, print};
+use cases::cursor::LENGTH_BYTES;
+use cases::layout::{Layout, OUTPUT_OF_FILE, PART};
+use cases::print;
 use day_sheet::layout::Version;
-use output::Told;
-use writing::Wanted;
 
 mod numbers;
 mod output;
 mod reading;
 mod writing;
 
-// What the cases of a file ask for.
-#[derive(Clone, Copy)]
-enum Question {
-    Read,
-    Write(Version),
-    Convert,
-    OfFile,
-}
+// The size of an output, and a sheet behind its length.
+const CONVERTED: Layout = Layout {
+    widths: [0, LENGTH_BYTES],
+    size: None,
+};
 
-// Prints the line of the case at a place, and answers the place behind it.
-fn print_case(question: Question, cases: &[u8], at: usize, told: Told) -> usize
-    ensures { min (at + 1) (length cases.now) ≤ result }
-{
-    match question {
-        Question::Read => reading::print_case(cases, at),
-        Question::Write(version) => writing::print_case(Wanted::Sheet(version), cases, at, told),
-        Question::Convert => writing::print_case(Wanted::Converted, cases, at, told),
-        Question::OfFile => {
-            let edition = cursor::number_at(cases, at, EDITION_BYTES);
-            writing::print_case(Wanted::OfFile(edition.value), cases, edition.behind, told)
-        }
-    }
-}
-
-// Prints the lines of all cases.
-fn print_cases(question: Question, cases: &[u8], told: Told) {
-    let mut at = 0;
-    while at < cases.len() {
-        at = print_case(question, cases, at, told);
-    }
-    cursor::print_end(cases, at);
-}
-
-// Prints the name of a file of cases, and their lines.
-fn print_file(rt: &HostRuntime, path: &[u8], question: Question, told: Told) {
-    let mut buffer = file::room();
+// Prints the name of a file of cases, and the lines of its sheets to read.
+fn print_read(rt: &HostRuntime, path: &[u8]) {
     print::text(path);
     print::byte(b'\n');
-    let size = file::load(rt, path, &mut buffer);
-    print_cases(question, &buffer[..size], told);
+    PART.print_file(rt, path, |_, sheet| reading::print_answer(sheet));
+}
+
+// The same of sheets to write, whose outputs `tell` tells.
+fn print_written<T: Fn(&[u8])>(rt: &HostRuntime, path: &[u8], version: Version, tell: T)
+    requires { T.IsAlwaysCallable tell }
+{
+    writing::print_file(
+        rt,
+        path,
+        numbers::layout_of(version),
+        |_, numbers, out| writing::print_sheet(version, numbers, out),
+        tell,
+    );
+}
+
+// The same of sheets to convert.
+fn print_converted<T: Fn(&[u8])>(rt: &HostRuntime, path: &[u8], tell: T)
+    requires { T.IsAlwaysCallable tell }
+{
+    writing::print_file(
+        rt,
+        path,
+        CONVERTED,
+        |_, sheet, out| writing::print_converted(sheet, out),
+        tell,
+    );
 }
 
 fn print_outside(rt: &HostRuntime) {
-    print_file(rt, b"outside_read.cases", Question::Read, Told::ByHash);
-    print_file(
+    print_read(rt, b"outside_read.cases");
+    print_written(
         rt,
         b"outside_write1.cases",
-        Question::Write(Version::One),
-        Told::ByHash,
+        Version::One,
+        output::print_hash,
     );
-    print_file(
+    print_written(
         rt,
         b"outside_write2.cases",
-        Question::Write(Version::Two),
-        Told::ByHash,
+        Version::Two,
+        output::print_hash,
     );
-    print_file(
-        rt,
-        b"outside_convert.cases",
-        Question::Convert,
-        Told::ByHash,
-    );
+    print_converted(rt, b"outside_convert.cases", output::print_hash);
 }
 
 fn print_own(rt: &HostRuntime) {
-    print_file(rt, b"own_read.cases", Question::Read, Told::InHex);
-    print_file(
+    print_read(rt, b"own_read.cases");
+    print_written(rt, b"own_write1.cases", Version::One, output::print_hex);
+    print_written(rt, b"own_write2.cases", Version::Two, output::print_hex);
+    print_converted(rt, b"own_convert.cases", output::print_hex);
+    writing::print_file(
         rt,
-        b"own_write1.cases",
-        Question::Write(Version::One),
-        Told::InHex,
+        b"own_of_file.cases",
+        OUTPUT_OF_FILE,
+        writing::print_of_file,
+        output::print_hex,
     );
-    print_file(
-        rt,
-        b"own_write2.cases",
-        Question::Write(Version::Two),
-        Told::InHex,
-    );
-    print_file(rt, b"own_convert.cases", Question::Convert, Told::InHex);
-    print_file(rt, b"own_of_file.cases", Question::OfFile, Told::InHex);
 }
 
 fn main(rt: HostRuntime) {

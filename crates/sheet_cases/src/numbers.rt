@@ -1,9 +1,12 @@
 // The numbers of a sheet to write, one behind the other: edition, date, movement, batches, sales, gross, discount, net; in version 2 those from sales on are
 // the settled's, and the split and the forecast's four follow.
 ghost use Rattle.std.specs.Prelude.{◌≡◌, ◌≤◌};
+ghost use Rattle.cases.specs.Layout.{HasBytes};
 ghost use Rattle.sheet_cases.specs.Numbers.{size_of, number_in, heading_in, totals_from, sheet_in};
 
 use cases::cursor;
+use cases::cursor::LENGTH_BYTES;
+use cases::layout::Layout;
 use day_sheet::layout::Version;
 use sheet_numbers::sheet::{Heading, Sheet};
 use totals::amounts::{Amounts, Totals};
@@ -20,7 +23,7 @@ const SPLIT: u64 = 8;
 const FORECAST: u64 = 9;
 
 // How many bytes all numbers of a version take.
-pub fn size_of(version: Version) -> u64
+fn size_of(version: Version) -> u64
     ensures { result ≡ size_of version }
 {
     match version {
@@ -29,7 +32,18 @@ pub fn size_of(version: Version) -> u64
     }
 }
 
+// The size of an output, and all numbers of a version.
+pub fn layout_of(version: Version) -> Layout
+    ensures { HasBytes result.size }
+{
+    Layout {
+        widths: [0, LENGTH_BYTES],
+        size: Some(size_of(version)),
+    }
+}
+
 // One of the numbers.
+#[tactic(auto, unfolding(crate::specs::Numbers::number_in))]
 fn number_in(numbers: &[u8], place: u64) -> u64
     requires { place ≤ 12 }
     ensures { result ≡ number_in numbers.now place }
@@ -39,6 +53,7 @@ fn number_in(numbers: &[u8], place: u64) -> u64
     number.value
 }
 
+#[tactic(auto, unfolding(crate::specs::Numbers::heading_in))]
 fn heading_in(numbers: &[u8]) -> Heading
     ensures { result ≡ heading_in numbers.now }
 {
@@ -51,6 +66,7 @@ fn heading_in(numbers: &[u8]) -> Heading
 }
 
 // The totals whose four numbers begin with this one.
+#[tactic(auto, unfolding(crate::specs::Numbers::totals_from))]
 fn totals_from(numbers: &[u8], first: u64) -> Totals
     requires { first ≤ 9 }
     ensures { result ≡ totals_from numbers.now first }

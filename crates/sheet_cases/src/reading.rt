@@ -1,9 +1,5 @@
-// Sheets to read. A case is a length, and so many bytes.
-ghost use Rattle.std.specs.Prelude.{◌+◌, ◌≤◌, min, length};
-
-use cases::cursor::LENGTH_BYTES;
-use cases::{answer, cursor, print};
-use day_sheet::reader::SheetRead;
+// Sheets to read.
+use cases::{answer, print};
 use sheet_numbers::sheet::{Heading, Sheet};
 
 // `A version edition date movement batches`
@@ -36,19 +32,7 @@ fn print_sheet(sheet: Sheet) {
 }
 
 // Prints the answer of some bytes, a line.
-fn print_answer(bytes: &[u8]) {
-    match day_sheet::reader::read(bytes) {
-        SheetRead::Read(sheet) => print_sheet(sheet),
-        SheetRead::Refused(refusal) => answer::print_refusal(refusal),
-    }
+pub fn print_answer(bytes: &[u8]) {
+    answer::print_answer(day_sheet::reader::read(bytes), print_sheet);
     print::byte(b'\n');
-}
-
-// Prints the line of the case at a place, and answers the place behind it.
-pub fn print_case(cases: &[u8], at: usize) -> usize
-    ensures { min (at + 1) (length cases.now) ≤ result }
-{
-    let length = cursor::number_at(cases, at, LENGTH_BYTES);
-    print_answer(length.part(cases));
-    length.behind_part()
 }

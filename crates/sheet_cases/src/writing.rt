@@ -1,83 +1,56 @@
-// Sheets that are written into an output. A case is the output's length, and what the sheet is made of: the numbers of a sheet to write; else a length, and so
-// many bytes. Before the case of a card file stands the edition.
-ghost use Rattle.std.specs.Prelude.{◌+◌, ◌≤◌, min, length};
+// Sheets that are written into an output, by what a sheet is made of: its numbers, a sheet of the other version, or a card file.
+ghost use Rattle.cases.specs.Layout.{HasBytes};
 
 use crate::numbers;
-use crate::output::{ROOM, Told, print_output};
-use cases::cursor::{LENGTH_BYTES, Number};
-use cases::{answer, cursor, output, print};
+use cases::layout::Layout;
+use cases::{answer, output, print};
 use day_sheet::layout::Version;
-use day_sheet::writer::SheetWritten;
+use refusal::Answer;
 
-// What a case wants in its output.
-#[derive(Clone, Copy)]
-pub enum Wanted {
-    // The sheet of some numbers.
-    Sheet(Version),
-    // A sheet in the other version.
-    Converted,
-    // The sheet of a card file under this edition.
-    OfFile(u64),
-}
+// How many bytes the longest output of a case has.
+const ROOM: usize = 128;
 
 // `A` or `R number record column`
-fn print_written(written: SheetWritten) {
-    match written {
-        SheetWritten::Written => print::byte(b'A'),
-        SheetWritten::Refused(refusal) => answer::print_refusal(refusal),
-    }
+fn print_answer(written: Answer<()>) {
+    answer::print_answer(written, |_| print::byte(b'A'));
 }
 
-// Writes a sheet, made of this input, into an output, and prints the answer.
-fn print_answer(wanted: Wanted, input: &[u8], out: &mut [u8]) {
-    match wanted {
-        Wanted::Sheet(version) => {
-            print_written(day_sheet::writer::write(numbers::sheet_in(version, input), out))
-        }
-        Wanted::Converted => print_written(day_sheet::converter::convert(input, out)),
-        Wanted::OfFile(edition) => {
-            answer::print_card_answer(card_sheet::sheet_of(edition, input, out))
-        }
-    }
+// Writes the sheet of some numbers, and prints the answer.
+pub fn print_sheet(version: Version, numbers: &[u8], out: &mut [u8]) {
+    print_answer(day_sheet::writer::write(numbers::sheet_in(version, numbers), out));
 }
 
-// The same, and then the output, a line.
-fn print_line(wanted: Wanted, input: &[u8], out: &mut [u8], told: Told) {
-    output::fill(out);
-    print_answer(wanted, input, out);
-    print_output(out, told);
+// The same of a sheet in the other version.
+pub fn print_converted(sheet: &[u8], out: &mut [u8]) {
+    print_answer(day_sheet::converter::convert(sheet, out));
 }
 
-// The same in an output of so many bytes.
-fn print_line_in(wanted: Wanted, input: &[u8], size: usize, told: Told) {
-    let mut room = [0u8; ROOM];
-    if ROOM < size {
-        output::print_too_long();
-        return;
-    }
-    print_line(wanted, input, &mut room[0..size], told);
+// The same of the sheet of a card file.
+pub fn print_of_file(edition: u64, file: &[u8], out: &mut [u8]) {
+    answer::print_card_answer(card_sheet::sheet_of(edition, file, out));
 }
 
-// How many bytes the input has, and where it begins.
-fn input_at(wanted: Wanted, cases: &[u8], at: usize) -> Number
-    ensures { at ≤ result.behind }
+// Prints the name of a file of cases, and a line for each: what `print_answer` prints of its edition, its input and its output, and the output, as `tell` does.
+pub fn print_file<A: Fn(u64, &[u8], &mut [u8]), T: Fn(&[u8])>(
+    rt: &HostRuntime,
+    path: &[u8],
+    layout: Layout,
+    print_answer: A,
+    tell: T,
+)
+    requires has_bytes { HasBytes layout.size }
+    requires answers { A.IsAlwaysCallable print_answer }
+    requires tells { T.IsAlwaysCallable tell }
 {
-    match wanted {
-        Wanted::Sheet(version) => Number {
-            value: numbers::size_of(version),
-            behind: at,
-        },
-        Wanted::Converted => cursor::number_at(cases, at, LENGTH_BYTES),
-        Wanted::OfFile(_) => cursor::number_at(cases, at, LENGTH_BYTES),
-    }
-}
-
-// Prints the line of the case at a place, and answers the place behind it.
-pub fn print_case(wanted: Wanted, cases: &[u8], at: usize, told: Told) -> usize
-    ensures { min (at + 1) (length cases.now) ≤ result }
-{
-    let size = cursor::number_at(cases, at, LENGTH_BYTES);
-    let input = input_at(wanted, cases, size.behind);
-    print_line_in(wanted, input.part(cases), size.value as usize, told);
-    input.behind_part()
+    print::text(path);
+    print::byte(b'\n');
+    layout.print_file(rt, path, |[edition, size], input| {
+        output::lend::<ROOM, _>(size, |out| {
+            output::fill(out);
+            print_answer(edition, input, out);
+            print::byte(b' ');
+            tell(out);
+            print::byte(b'\n');
+        })
+    });
 }

@@ -13,66 +13,47 @@ const LARGEST_COUNT: u64 = 999_999;
 const TOO_LARGE: u64 = 100_000_000_000_000_000;
 
 // Whether the count of sales and each total are within their limits.
+#[tactic(auto, unfolding(crate::specs::Allowed::within_limits))]
 fn within_limits(totals: Totals) -> bool
     ensures { result ≡ within_limits totals }
 {
     let amounts = totals.amounts;
-    if LARGEST_COUNT < totals.sales {
-        return false;
-    }
-    if TOO_LARGE <= amounts.gross {
-        return false;
-    }
-    if TOO_LARGE <= amounts.discount {
-        return false;
-    }
-    amounts.net < TOO_LARGE
+    totals.sales <= LARGEST_COUNT
+        && amounts.gross < TOO_LARGE
+        && amounts.discount < TOO_LARGE
+        && amounts.net < TOO_LARGE
 }
 
 // Whether one set of totals is allowed.
+#[tactic(auto, unfolding(crate::specs::Allowed::set_allowed))]
 fn set_allowed(totals: Totals) -> bool
     ensures { result ≡ set_allowed totals }
 {
-    let amounts = totals.amounts;
-    within_limits(totals) && amounts.agree()
+    within_limits(totals) && totals.amounts.agree()
 }
 
+// Whether a heading is allowed.
+#[tactic(auto, unfolding(crate::specs::Allowed::heading_allowed))]
 fn heading_allowed(heading: Heading) -> bool
     ensures { result ≡ heading_allowed heading }
 {
-    if heading.edition < 1 {
-        return false;
-    }
-    if 2 < heading.edition {
-        return false;
-    }
-    if !calendar::day::is_day(heading.date) {
-        return false;
-    }
-    if LARGEST_COUNT < heading.movement {
-        return false;
-    }
-    heading.batches <= LARGEST_COUNT
+    (1..=2).contains(&heading.edition)
+        && calendar::day::is_day(heading.date)
+        && heading.movement <= LARGEST_COUNT
+        && heading.batches <= LARGEST_COUNT
 }
 
 // Whether there is no sale, and nothing that one comes to.
+#[tactic(auto, unfolding(crate::specs::Allowed::none_of))]
 fn none_of(totals: Totals) -> bool
     ensures { result ≡ none_of totals }
 {
     let amounts = totals.amounts;
-    if totals.sales != 0 {
-        return false;
-    }
-    if amounts.gross != 0 {
-        return false;
-    }
-    if amounts.discount != 0 {
-        return false;
-    }
-    amounts.net == 0
+    totals.sales == 0 && amounts.gross == 0 && amounts.discount == 0 && amounts.net == 0
 }
 
 // Whether the split goes with the forecast: known, or not known and nothing forecast.
+#[tactic(auto, unfolding(crate::specs::Allowed::split_allowed))]
 fn split_allowed(split: u64, forecast: Totals) -> bool
     ensures { result ≡ split_allowed split forecast }
 {
@@ -84,22 +65,16 @@ fn split_allowed(split: u64, forecast: Totals) -> bool
 }
 
 // Whether each set is allowed, and both summed are within the limits.
+#[tactic(auto, using(crate::proofs::Allowances::set_within, crate::proofs::Allowances::sum_plain), unfolding(crate::specs::Allowed::sets_allowed))]
 fn sets_allowed(sets: TwoSets) -> bool
     ensures { result ≡ sets_allowed sets }
 {
-    let settled = sets.settled;
-    let forecast = sets.forecast;
-    if !set_allowed(settled) {
-        return false;
-    }
-    if !set_allowed(forecast) {
-        return false;
-    }
-    within_limits(sets.both())
+    set_allowed(sets.settled) && set_allowed(sets.forecast) && within_limits(sets.both())
 }
 
 impl Sheet {
     // Whether a sheet may hold these numbers.
+    #[tactic(auto, unfolding(crate::specs::Allowed::sheet_allowed))]
     pub fn is_allowed(self) -> bool
         ensures { result ≡ sheet_allowed self }
     {
@@ -110,14 +85,9 @@ impl Sheet {
                 split,
                 sets,
             } => {
-                let forecast = sets.forecast;
-                if !heading_allowed(heading) {
-                    return false;
-                }
-                if !sets_allowed(sets) {
-                    return false;
-                }
-                split_allowed(split, forecast)
+                heading_allowed(heading)
+                    && sets_allowed(sets)
+                    && split_allowed(split, sets.forecast)
             }
         }
     }

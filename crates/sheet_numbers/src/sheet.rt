@@ -22,7 +22,7 @@ pub enum Sheet {
         heading: Heading,
         totals: Totals,
     },
-    // Those of both sets; the split is 1 if it is known, and 0 if not.
+    // Those of both sets; the split is 1 if it is known, and 0 if not. It stays a number: a sheet that a caller made up may hold any, which `is_allowed` tells.
     Version2 {
         heading: Heading,
         split: u64,
@@ -36,16 +36,13 @@ impl Sheet {
         ensures { result ≡ sheet_edition self }
     {
         match self {
-            Sheet::Version1 { heading, totals: _ } => heading.edition,
-            Sheet::Version2 {
-                heading,
-                split: _,
-                sets: _,
-            } => heading.edition,
+            Sheet::Version1 { heading, .. } => heading.edition,
+            Sheet::Version2 { heading, .. } => heading.edition,
         }
     }
 
     // The sheet in the other version: all sales as settled with the split not known, or both sets added.
+    #[tactic(auto, unfolding(crate::specs::Converted::converted))]
     pub fn converted(self) -> Sheet
         ensures { result ≡ converted self }
     {
@@ -58,11 +55,7 @@ impl Sheet {
                     settled: totals,
                 },
             },
-            Sheet::Version2 {
-                heading,
-                split: _,
-                sets,
-            } => Sheet::Version1 {
+            Sheet::Version2 { heading, sets, .. } => Sheet::Version1 {
                 heading,
                 totals: sets.both(),
             },

@@ -1,22 +1,20 @@
--- No text of an outcome has more than 448 bytes.
+-- No text of a sheet has more than 430 bytes.
 use Prim.Native.Nat.{ℕ, ◌+◌, ◌≤◌}
 use mathlib.Core.Path.{◌≡◌}
 use mathlib.Core.List.{List, []}
 use native.Mathlib.Omega.{arith}
 use lib.ListN.{length, length-append}
+use Rattle.std.specs.Prelude.{Ok, Err}
 use Rattle.text.specs.Literal.{ascii}
 use Rattle.wording.proofs.Lengths.{line_short, refused_short}
-use Rattle.program.proofs.Sentences.{sentence_short}
 use Rattle.totals.specs.declared.amounts.Totals.{Totals}
 use Rattle.totals.specs.declared.two_sets.TwoSets.{TwoSets}
 use Rattle.sheet_numbers.specs.declared.sheet.Heading.{Heading}
 use Rattle.sheet_numbers.specs.declared.sheet.Sheet.TheVariants.{Version1, Version2}
-use Rattle.day_sheet.specs.declared.reader.SheetRead.TheVariants.{Read, Refused}
+use Rattle.day_sheet.specs.Reading.{SheetRead}
 use Rattle.day_sheet.proofs.Filling.{length_digits}
 use Rattle.card_program.proofs.Texts.{totals_short, sets_short}
-use Rattle.sheet_program.specs.declared.read.SheetOutcome.{SheetOutcome}
-use Rattle.sheet_program.specs.declared.read.SheetOutcome.TheVariants.{Read as Done, Mistake}
-use Rattle.sheet_program.specs.Verdict.{digits_line, heading_text, version1_text, version2_text, outcome_text}
+use Rattle.sheet_program.specs.Verdict.{digits_line, heading_text, version1_text, version2_text, read_text}
 
 length_line : (name : List ℕ) (width n : ℕ) → length (digits_line name width n) ≡ length name + width + 1
 unfolding digits_line
@@ -43,8 +41,7 @@ unfolding version2_text
 version2_short h split s =
     simp length-append (omega (arith, line_short (ascii "VERSION") 2, heading_short h, line_short (ascii "SPLIT") split, sets_short s))
 
-pub outcome_short : (outcome : SheetOutcome) → length (outcome_text outcome) ≤ 448
-outcome_short (Done (Read (Version1 heading totals))) = omega (arith, version1_short heading totals)
-outcome_short (Done (Read (Version2 heading split sets))) = omega (arith, version2_short heading split sets)
-outcome_short (Done (Refused refusal)) = omega (arith, refused_short refusal)
-outcome_short (Mistake mistake) = omega (arith, sentence_short mistake)
+pub read_short : (read : SheetRead) → length (read_text read) ≤ 430
+read_short (Ok (Version1 heading totals)) = omega (arith, version1_short heading totals)
+read_short (Ok (Version2 heading split sets)) = version2_short heading split sets
+read_short (Err refusal) = omega (arith, refused_short refusal)

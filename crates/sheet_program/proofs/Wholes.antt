@@ -8,18 +8,15 @@ use native.Mathlib.Omega.{arith}
 use lib.ListN.{length, take, drop, drop_of_length-le}
 use lib.Seq.{take_at}
 use borrow.Author.Tests.{le-leb}
+use Rattle.std.specs.Prelude.{Ok, Err}
 use Rattle.refusal.specs.declared.Refusal.{Refusal}
 use Rattle.sheet_numbers.specs.declared.sheet.Sheet.{Sheet}
-use Rattle.day_sheet.specs.declared.reader.SheetRead.{SheetRead}
-use Rattle.day_sheet.specs.declared.reader.SheetRead.TheVariants.{Read, Refused as unread}
-use Rattle.day_sheet.specs.declared.writer.SheetWritten.{SheetWritten}
-use Rattle.day_sheet.specs.declared.writer.SheetWritten.TheVariants.{Written, Refused}
 use Rattle.day_sheet.specs.declared.layout.Version.{Version}
 use Rattle.day_sheet.specs.declared.layout.Version.TheVariants.{One, Two}
 use Rattle.day_sheet.specs.Version.{width_of}
 use Rattle.day_sheet.specs.Sheet.{version_of, bytes_of}
-use Rattle.day_sheet.specs.Reading.{read_of}
-use Rattle.day_sheet.specs.Writing.{sheet_width, put_result, Writes}
+use Rattle.day_sheet.specs.Reading.{SheetRead, read_of}
+use Rattle.day_sheet.specs.Writing.{SheetWritten, sheet_width, put_result, Writes}
 use Rattle.sheet_numbers.specs.Converted.{converted}
 use Rattle.day_sheet.specs.Conversion.{convert_result, Converts}
 use Rattle.day_sheet.proofs.RoundTrip.{bytes_length}
@@ -27,15 +24,15 @@ use Rattle.day_sheet.proofs.Writings.{PutOrRefused, put_or_refused}
 use Rattle.sheet_program.specs.SheetRead.{converted_read}
 
 abbrev is_written : SheetWritten → Bool
-is_written Written = true
-is_written (Refused refusal) = false
+is_written (Ok none) = true
+is_written (Err refusal) = false
 
 module _ (sheet : Sheet) (out : List ℕ) where
   put_there : sheet_width sheet ≤ length out → put_result sheet out ≡ bytes_of sheet ++ drop (sheet_width sheet) out
   unfolding put_result
   put_there h = rw (le-leb (sheet_width sheet) (length out) h)
 
-  pub whole_sheet : {answer : SheetWritten} {after : List ℕ} → length out ≡ sheet_width sheet → Writes sheet out answer after → answer ≡ Written →
+  pub whole_sheet : {answer : SheetWritten} {after : List ℕ} → length out ≡ sheet_width sheet → Writes sheet out answer after → answer ≡ Ok tt →
       after ≡ bytes_of sheet
   whole_sheet {answer} {after} l w e = by (put_or_refused sheet out w)
     where
@@ -50,7 +47,7 @@ pub width_within : (v : Version) {width : ℕ} → width ≡ width_of v → widt
 width_within One e = omega arith
 width_within Two e = omega arith
 
-pub front_sheet : (bytes out : List ℕ) (sheet : Sheet) {width : ℕ} {answer : SheetWritten} {after : List ℕ} → read_of bytes ≡ Read sheet → length out ≡ 81 →
+pub front_sheet : (bytes out : List ℕ) (sheet : Sheet) {width : ℕ} {answer : SheetWritten} {after : List ℕ} → read_of bytes ≡ Ok sheet → length out ≡ 81 →
     width ≡ sheet_width (converted sheet) → Converts bytes out answer after → take width after ≡ bytes_of (converted sheet)
 unfolding convert_result
 front_sheet bytes out sheet {width} {answer} {after} e l same w =
@@ -61,5 +58,5 @@ front_sheet bytes out sheet {width} {answer} {after} e l same w =
     take_at (bytes_of new) (drop (sheet_width new) out) (sheet_width new) (bytes_length new)
 
 -- a refusal stays as it is
-pub stays_refused : (bytes : List ℕ) {read : SheetRead} {r : Refusal} → read ≡ read_of bytes → read ≡ unread r → read ≡ converted_read (read_of bytes)
+pub stays_refused : (bytes : List ℕ) {read : SheetRead} {r : Refusal} → read ≡ read_of bytes → read ≡ Err r → read ≡ converted_read (read_of bytes)
 stays_refused bytes e f = f ∙ ap converted_read (sym f ∙ e)

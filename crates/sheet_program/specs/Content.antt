@@ -1,9 +1,8 @@
 -- What is promised of a file that was loaded: the bytes that are counted lie within the room.
-use Rattle.std.specs.Prelude.{ℕ, ◌≤◌}
+use Rattle.std.specs.Prelude.{ℕ, ◌≤◌, Result, Ok, Err}
 use Rattle.program.specs.OfTheFiles.{OfTheFiles}
-use Rattle.sheet_program.specs.declared.load.Content.{Content}
-use Rattle.sheet_program.specs.declared.load.Content.TheVariants.{Bytes, Mistake}
+use Rattle.program.specs.declared.mistake.Mistake.{Mistake}
 
-abbrev pub ContentWithin : ℕ → Content → Type 0
-ContentWithin size (Bytes n) = n ≤ size
-ContentWithin size (Mistake mistake) = OfTheFiles mistake
+abbrev pub ContentWithin : ℕ → Result ℕ Mistake → Type 0
+ContentWithin size (Ok n) = n ≤ size
+ContentWithin size (Err mistake) = OfTheFiles mistake

@@ -1,19 +1,18 @@
 -- What is printed of a day sheet: its numbers, each a line; a date and a movement have all their digits. Version 2 says so first.
-use Rattle.std.specs.Prelude.{ℕ, List, [], ◌∷◌, ℤ, pos}
+use Rattle.std.specs.Prelude.{ℕ, List, [], ◌∷◌, Ok, Err}
 use Rattle.text.specs.Literal.{ascii}
 use Rattle.wording.specs.Line.{line_of, refused_line, joined}
-use Rattle.program.specs.Sentence.{sentence_of}
+use Rattle.files.specs.declared.writing.Standard.{Standard}
+use Rattle.program.specs.Outcome.{told_text, standard_of}
 use Rattle.totals.specs.declared.amounts.Totals.{Totals}
 use Rattle.totals.specs.declared.two_sets.TwoSets.{TwoSets}
 use Rattle.day_sheet.specs.Number.{in_base}
 use Rattle.sheet_numbers.specs.declared.sheet.Heading.{Heading}
 use Rattle.sheet_numbers.specs.declared.sheet.Sheet.{Sheet}
 use Rattle.sheet_numbers.specs.declared.sheet.Sheet.TheVariants.{Version1, Version2}
-use Rattle.day_sheet.specs.declared.reader.SheetRead.{SheetRead}
-use Rattle.day_sheet.specs.declared.reader.SheetRead.TheVariants.{Read, Refused}
+use Rattle.day_sheet.specs.Reading.{SheetRead}
 use Rattle.card_program.specs.Verdict.{totals_text, sets_text}
-use Rattle.sheet_program.specs.declared.read.SheetOutcome.{SheetOutcome}
-use Rattle.sheet_program.specs.declared.read.SheetOutcome.TheVariants.{Read as Done, Mistake}
+use Rattle.sheet_program.specs.SheetRead.{SheetOutcome}
 
 -- a word and so many digits of a number
 unfoldable pub digits_line : List ℕ → ℕ → ℕ → List ℕ
@@ -38,15 +37,13 @@ numbers_text (Version1 heading totals) = version1_text heading totals
 numbers_text (Version2 heading split sets) = version2_text heading split sets
 
 abbrev pub read_text : SheetRead → List ℕ
-read_text (Read sheet) = numbers_text sheet
-read_text (Refused refusal) = refused_line refusal
+read_text (Ok sheet) = numbers_text sheet
+read_text (Err refusal) = refused_line refusal
 
 -- the numbers, the refusal, or the mistake's sentence
 abbrev pub outcome_text : SheetOutcome → List ℕ
-outcome_text (Done read) = read_text read
-outcome_text (Mistake mistake) = sentence_of mistake
+outcome_text = told_text read_text
 
--- standard output is 1, standard error 2
-abbrev pub descriptor_of : SheetOutcome → ℤ
-descriptor_of (Done read) = pos 1
-descriptor_of (Mistake mistake) = pos 2
+-- numbers and refusals go to standard output, a mistake to standard error
+abbrev pub descriptor_of : SheetOutcome → Standard
+descriptor_of = standard_of

@@ -2,24 +2,18 @@
 ghost use Rattle.sheet_program.specs.SheetRead.{SheetChecked};
 
 use crate::load;
-use crate::load::Content;
 use day_sheet::reader;
-use day_sheet::reader::SheetRead;
 use program::mistake::Mistake;
+use refusal::Answer;
+use sheet_numbers::sheet::Sheet;
 
-#[derive(Clone, Copy)]
-pub enum SheetOutcome {
-    Read(SheetRead),
-    Mistake(Mistake),
-}
+pub type SheetOutcome = Result<Answer<Sheet>, Mistake>;
 
 // Reads the day sheet of a name.
 pub fn read(rt: &HostRuntime, file: &[u8]) -> SheetOutcome
     ensures { SheetChecked result }
 {
     let mut room = [0u8; load::ROOM];
-    match load::load(rt, file, &mut room) {
-        Content::Mistake(mistake) => SheetOutcome::Mistake(mistake),
-        Content::Bytes(size) => SheetOutcome::Read(reader::read(&room[..size])),
-    }
+    let size = load::load(rt, file, &mut room)?;
+    Ok(reader::read(&room[..size]))
 }

@@ -15,11 +15,10 @@ ghost use Rattle.sheet_program.specs.Verdict.{
 use crate::read::SheetOutcome;
 use card_program::verdict;
 use day_sheet::number::Form;
-use day_sheet::reader::SheetRead;
-use files::writing;
-use files::writing::{STDERR, STDOUT};
-use program::mistake;
-use program::mistake::{Failed, Mistake};
+use files::writing::Standard;
+use program::outcome;
+use program::outcome::Teller;
+use refusal::Answer;
 use sheet_numbers::sheet::{Heading, Sheet};
 use totals::amounts::Totals;
 use totals::two_sets::TwoSets;
@@ -29,9 +28,6 @@ use wording::{line, put};
 const DATE_DIGITS: usize = 8;
 
 const MOVEMENT_DIGITS: usize = 6;
-
-// Room for every text.
-const ROOM: usize = 448;
 
 // Each function here puts its text behind the first `at` bytes, and answers how many bytes stand there then. First a word and so many digits of a
 // number, of which a date has the most.
@@ -85,12 +81,26 @@ fn put_numbers(sheet: Sheet, out: &mut [u8], at: usize) -> usize
     }
 }
 
-fn put_read(read: SheetRead, out: &mut [u8], at: usize) -> usize
+fn put_read(read: Answer<Sheet>, out: &mut [u8], at: usize) -> usize
     ensures { Puts (read_text read) out.old at result out.new }
 {
     match read {
-        SheetRead::Read(sheet) => put_numbers(sheet, out, at),
-        SheetRead::Refused(refusal) => line::refused(refusal, out, at),
+        Ok(sheet) => put_numbers(sheet, out, at),
+        Err(refusal) => line::refused(refusal, out, at),
+    }
+}
+
+// Tells what a day sheet says.
+struct DaySheet;
+
+impl Teller for DaySheet {
+    type Answer = Answer<Sheet>;
+
+    ghost text_of = { λ _ read. read_text read };
+
+    #[tactic(auto, using(crate::proofs::Texts::read_short))]
+    fn put(&self, read: Answer<Sheet>, out: &mut [u8], at: usize) -> usize {
+        put_read(read, out, at)
     }
 }
 
@@ -98,34 +108,17 @@ fn put_read(read: SheetRead, out: &mut [u8], at: usize) -> usize
 pub fn put_outcome(outcome: SheetOutcome, out: &mut [u8], at: usize) -> usize
     ensures { Puts (outcome_text outcome) out.old at result out.new }
 {
-    match outcome {
-        SheetOutcome::Read(read) => put_read(read, out, at),
-        SheetOutcome::Mistake(mistake) => mistake::put(mistake, out, at),
-    }
+    outcome::put(&DaySheet, outcome, out, at)
 }
 
 // Where an outcome's text goes: numbers and refusals to standard output, a mistake to standard error.
-pub fn descriptor(outcome: SheetOutcome) -> i32
+pub fn descriptor(outcome: SheetOutcome) -> Standard
     ensures { result ≡ descriptor_of outcome }
 {
-    match outcome {
-        SheetOutcome::Read(_) => STDOUT,
-        SheetOutcome::Mistake(_) => STDERR,
-    }
-}
-
-// Writes an outcome's text, and no other.
-fn write(rt: &HostRuntime, outcome: SheetOutcome, text: &[u8])
-    requires { text.now ≡ outcome_text outcome }
-{
-    if let Err(error) = writing::write_to(rt, descriptor(outcome), text) {
-        mistake::tell(rt, Mistake::System(Failed::Print, error));
-    }
+    outcome::standard(&outcome)
 }
 
 // Prints the numbers of a day sheet or its refusal, or tells the mistake, by one call.
 pub fn print(rt: &HostRuntime, outcome: SheetOutcome) {
-    let mut room = [0u8; ROOM];
-    let size = put_outcome(outcome, &mut room, 0);
-    write(rt, outcome, &room[..size]);
+    outcome::print(rt, &DaySheet, outcome);
 }

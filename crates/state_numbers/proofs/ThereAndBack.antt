@@ -7,6 +7,7 @@ use native.Mathlib.Omega.{arith}
 use lib.ListN.{replicate}
 use lib.Dec.{eqb}
 use borrow.Author.Tests.{ne_eqb}
+use Rattle.std.specs.Prelude.{Ok, Err, Some, None}
 use Rattle.refusal.specs.declared.Refusal.{Refusal}
 use Rattle.refusal.specs.declared.Cause.TheVariants.{EditionUnknown}
 use Rattle.refusal.specs.Nowhere.{nowhere}
@@ -16,20 +17,16 @@ use Rattle.chunks.specs.Unfinished.{held_by}
 use Rattle.card_run.specs.declared.stage.Stage.{Stage as CardStage}
 use Rattle.card_run.specs.declared.stage.Stage.TheVariants.{Start, BetweenBatches, InBatch, Ended, Closed, Refused}
 use Rattle.card_run.specs.declared.running.Running.{Running as CardRunning}
-use Rattle.card_run.specs.declared.answer.CardAnswer.TheVariants.{Refused as card_refused}
 use Rattle.card_run.specs.Answer.{answer_at, answer_of}
 use Rattle.card_stream.specs.declared.Stream.{Stream as CardStream}
 use Rattle.card_stream.specs.Stream.{behind_end, with_held, answer_of as card_answer}
 use Rattle.payroll_run.specs.declared.stage.Stage.{Stage as PayrollStage}
 use Rattle.payroll_run.specs.declared.stage.Stage.TheVariants.{Start as AtStart, BetweenBatches as Between, InBatch as In, BehindA, BehindB, Ended as AtEnd, Refused as Stopped}
 use Rattle.payroll_run.specs.declared.running.Running.{Running as PayrollRunning}
-use Rattle.payroll_file.specs.declared.answer.PayrollAnswer.TheVariants.{Accepted, Refused as refused}
 use Rattle.payroll_file.specs.Answer.{payroll_row}
-use Rattle.payroll_stream.specs.declared.Progress.{Progress}
-use Rattle.payroll_stream.specs.declared.Progress.TheVariants.{GoingOn, Answered}
 use Rattle.payroll_stream.specs.declared.Stream.{Stream as PayrollStream}
 use Rattle.payroll_stream.specs.declared.feeding.Feeding.{Feeding}
-use Rattle.payroll_stream.specs.Stream.{progress_row, so_far, answer_at as payroll_at, answer_of as payroll_answer}
+use Rattle.payroll_stream.specs.Stream.{PayrollProgress, progress_row, so_far, answer_at as payroll_at, answer_of as payroll_answer}
 use Rattle.payroll_stream.specs.Feeding.{answer_of as feeding_answer}
 use Rattle.answer_rows.specs.Row.{refusal_as_list, as_number}
 use Rattle.answer_rows.specs.Payroll.{progress_numbers}
@@ -96,13 +93,13 @@ running_again st l =
     }
 
 -- the answer behind a state: a refusal is told from none by its number
-progress_again : (st : PayrollRunning) (p : Progress) → progress_of (running_numbers st ++ progress_numbers p) ≡ p
+progress_again : (st : PayrollRunning) (p : PayrollProgress) → progress_of (running_numbers st ++ progress_numbers p) ≡ p
 unfolding progress_of progress_row payroll_row
-progress_again st GoingOn = refl
-progress_again st (Answered (Accepted a)) = refl
-progress_again st (Answered (refused r)) =
+progress_again st None = refl
+progress_again st (Some (Ok a)) = refl
+progress_again st (Some (Err r)) =
     let no : number_of r.cause ≡ 0 → ⊥ = λ e. omega (arith, from_one r.cause) in
-    rw (ne_eqb _ _ no) (ap (λ r. Answered (refused r)) (refusal_again r))
+    rw (ne_eqb _ _ no) (ap (λ r. Some (Err r)) (refusal_again r))
 
 pub feeding_again : (f : Feeding) → feeding_of (feeding_numbers f) ≡ f
 unfolding feeding_numbers
@@ -121,24 +118,24 @@ payroll_again {s} k =
     λ i. record { state = (both i).state; held = record { bytes = k.is_held i; length = k.waits i }; progress = (both i).progress }
 
 -- numbers that no call has written: 1 at 0, 0
-pub card_zeros : answer_of (state_of (replicate 24 0)) ≡ card_refused (nowhere EditionUnknown)
+pub card_zeros : answer_of (state_of (replicate 24 0)) ≡ Some (Err (nowhere EditionUnknown))
 unfolding state_of stage_of answer_at
 card_zeros = refl
 
-pub feeding_zeros : feeding_answer (feeding_of (replicate 20 0)) ≡ Answered (refused (nowhere EditionUnknown))
+pub feeding_zeros : feeding_answer (feeding_of (replicate 20 0)) ≡ Some (Err (nowhere EditionUnknown))
 unfolding running_of payroll_stage progress_of payroll_at so_far
 feeding_zeros = refl
 
 -- and in chunks, whatever waits
-zeros_with : (held : List ℕ) → answer_of (with_held held (state_of (replicate 24 0))) ≡ card_refused (nowhere EditionUnknown)
+zeros_with : (held : List ℕ) → answer_of (with_held held (state_of (replicate 24 0))) ≡ Some (Err (nowhere EditionUnknown))
 unfolding with_held behind_end state_of stage_of answer_at
 zeros_with [] = refl
 zeros_with (b ∷ held) = refl
 
-pub card_stream_zeros : (waiting : ℕ) (bytes : List ℕ) → card_answer (card_stream (replicate 24 0) waiting bytes) ≡ card_refused (nowhere EditionUnknown)
+pub card_stream_zeros : (waiting : ℕ) (bytes : List ℕ) → card_answer (card_stream (replicate 24 0) waiting bytes) ≡ Some (Err (nowhere EditionUnknown))
 card_stream_zeros waiting bytes = zeros_with (held_by (record { bytes = bytes; length = waiting }))
 
 pub payroll_stream_zeros : (waiting : ℕ) (bytes : List ℕ) →
-    payroll_answer (payroll_stream (replicate 20 0) waiting bytes) ≡ Answered (refused (nowhere EditionUnknown))
+    payroll_answer (payroll_stream (replicate 20 0) waiting bytes) ≡ Some (Err (nowhere EditionUnknown))
 unfolding running_of payroll_stage progress_of payroll_at so_far
 payroll_stream_zeros waiting bytes = refl

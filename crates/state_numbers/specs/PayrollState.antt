@@ -1,12 +1,10 @@
 -- The state of a payroll file that is given record by record, as twenty numbers, which a caller keeps from one call to the next.
-use Rattle.std.specs.Prelude.{ℕ, List, [], ◌∷◌, ◌++◌, cond, not, get_or, eqb}
+use Rattle.std.specs.Prelude.{ℕ, List, [], ◌∷◌, ◌++◌, cond, not, get_or, eqb, Some, None, Ok, Err}
 use Rattle.refusal.specs.Row.{RefusalRow, no_refusal, refusal_row}
 use Rattle.payroll_run.specs.declared.stage.Stage.{Stage}
 use Rattle.payroll_run.specs.declared.stage.Stage.TheVariants.{Start, BetweenBatches, InBatch, BehindA, BehindB, Ended, Refused}
 use Rattle.payroll_run.specs.declared.running.Running.{Running}
-use Rattle.payroll_file.specs.declared.answer.PayrollAnswer.TheVariants.{Accepted, Refused as refused}
-use Rattle.payroll_stream.specs.declared.Progress.{Progress}
-use Rattle.payroll_stream.specs.declared.Progress.TheVariants.{GoingOn, Answered}
+use Rattle.payroll_stream.specs.Stream.{PayrollProgress}
 use Rattle.payroll_stream.specs.declared.feeding.Feeding.{Feeding}
 use Rattle.answer_rows.specs.Row.{refusal_as_list, as_number}
 use Rattle.answer_rows.specs.Payroll.{progress_numbers}
@@ -67,11 +65,11 @@ running_of l =
     }
 
 -- and the answer that stands behind it: accepted, refused, or none yet
-unfoldable pub progress_of : List ℕ → Progress
+unfoldable pub progress_of : List ℕ → PayrollProgress
 progress_of l =
     cond (eqb (get_or l 19 0) 0)
-    (cond (eqb (get_or l 12 0) 0) GoingOn (Answered (refused (refusal_from 12 l))))
-    (Answered (Accepted (record { records = get_or l 15 0; batches = get_or l 16 0; payments = get_or l 17 0; amount = get_or l 18 0 })))
+    (cond (eqb (get_or l 12 0) 0) None (Some (Err (refusal_from 12 l))))
+    (Some (Ok (record { records = get_or l 15 0; batches = get_or l 16 0; payments = get_or l 17 0; amount = get_or l 18 0 })))
 
 abbrev pub feeding_of : List ℕ → Feeding
 feeding_of l = record { state = running_of l; progress = progress_of l }

@@ -1,6 +1,5 @@
 // The running state of a card file as numbers, and any numbers as a state.
-ghost use Rattle.std.specs.Prelude.{◌≡◌, ◌∷◌, ◌≤◌};
-ghost use Rattle.day_sheet.specs.Sheet.{totals_from};
+ghost use Rattle.std.specs.Prelude.{◌≡◌, ◌∷◌};
 ghost use Rattle.answer_rows.specs.Row.{refusal_as_list};
 ghost use Rattle.state_numbers.specs.CardState.{stage_number, stage_refusal, state_numbers, stage_of, numbers_from, state_of};
 
@@ -10,7 +9,7 @@ use card_run::answer::Accepted;
 use card_run::batch::OpenBatch;
 use card_run::running::Running;
 use card_run::stage::Stage;
-use totals::amounts::{Amounts, Totals};
+use day_sheet::row::totals_from;
 use totals::two_sets::TwoSets;
 
 // How many numbers a state is.
@@ -26,27 +25,19 @@ fn stage_numbers(stage: Stage) -> [u64; 4]
         Stage::InBatch => [3, 0, 0, 0],
         Stage::Ended => [4, 0, 0, 0],
         Stage::Closed => [5, 0, 0, 0],
-        Stage::Refused(refusal) => {
-            let cause = refusal.cause;
-            let number = cause.number();
-            [6, number, refusal.record, refusal.column]
-        }
+        Stage::Refused(refusal) => [6, refusal.cause.number(), refusal.record, refusal.column],
     }
 }
 
 // The numbers of a state.
+#[tactic(auto, unfolding(crate::specs::CardState::state_numbers))]
 pub fn numbers(state: Running) -> [u64; STATE_NUMBERS]
     ensures { result ≡ state_numbers state }
 {
     let file = state.numbers;
-    let sets = file.totals;
-    let forecast = sets.forecast;
-    let settled = sets.settled;
-    let credits = file.credits;
-    let debits = file.debits;
-    let batch = state.batch;
-    let stage = state.stage;
-    let staged = stage_numbers(stage);
+    let forecast = file.totals.forecast;
+    let settled = file.totals.settled;
+    let staged = stage_numbers(state.stage);
     [
         staged[0],
         staged[1],
@@ -65,17 +56,18 @@ pub fn numbers(state: Running) -> [u64; STATE_NUMBERS]
         settled.amounts.gross,
         settled.amounts.discount,
         settled.amounts.net,
-        credits.count,
-        credits.net,
-        debits.count,
-        debits.net,
-        batch.transactions,
-        batch.added,
-        batch.taken,
+        file.credits.count,
+        file.credits.net,
+        file.debits.count,
+        file.debits.net,
+        state.batch.transactions,
+        state.batch.added,
+        state.batch.taken,
     ]
 }
 
 // The stage of any numbers: a refusal where the first is no stage's.
+#[tactic(auto, unfolding(crate::specs::CardState::stage_of))]
 fn stage_of(numbers: &[u64; STATE_NUMBERS]) -> Stage
     ensures { result ≡ stage_of numbers.now }
 {
@@ -86,21 +78,6 @@ fn stage_of(numbers: &[u64; STATE_NUMBERS]) -> Stage
         4 => Stage::Ended,
         5 => Stage::Closed,
         _ => Stage::Refused(refusal_of(numbers[1], numbers[2], numbers[3])),
-    }
-}
-
-// The totals whose four numbers begin with this one.
-fn totals_from(first: usize, numbers: &[u64; STATE_NUMBERS]) -> Totals
-    requires { first ≤ 20 }
-    ensures { result ≡ totals_from first numbers.now }
-{
-    Totals {
-        sales: numbers[first],
-        amounts: Amounts {
-            gross: numbers[first + 1],
-            discount: numbers[first + 2],
-            net: numbers[first + 3],
-        },
     }
 }
 
@@ -129,6 +106,7 @@ fn file_of(numbers: &[u64; STATE_NUMBERS]) -> Accepted
 }
 
 // The state of any numbers.
+#[tactic(auto, unfolding(crate::specs::CardState::state_of))]
 pub fn state_of(numbers: &[u64; STATE_NUMBERS]) -> Running
     ensures { result ≡ state_of numbers.now }
 {

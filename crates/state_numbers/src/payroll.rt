@@ -1,6 +1,6 @@
 // The state of a payroll file that is given record by record as numbers, and any numbers as a state.
 ghost use Rattle.std.specs.Prelude.{◌≡◌, ◌∷◌};
-ghost use Rattle.answer_rows.specs.Row.{refusal_as_list, as_number};
+ghost use Rattle.answer_rows.specs.Row.{refusal_as_list};
 ghost use Rattle.state_numbers.specs.PayrollState.{
   stage_number,
   stage_refusal,
@@ -13,11 +13,11 @@ ghost use Rattle.state_numbers.specs.PayrollState.{
 
 use crate::refused::refusal_of;
 use answer_rows::payroll::progress_row;
-use payroll_file::answer::{Accepted, PayrollAnswer};
+use payroll_file::answer::Accepted;
 use payroll_run::running::{Batch, Running};
 use payroll_run::stage::Stage;
-use payroll_stream::Progress;
 use payroll_stream::feeding::Feeding;
+use refusal::Progress;
 
 // How many numbers a state is.
 pub const STATE_NUMBERS: usize = 20;
@@ -33,48 +33,31 @@ fn stage_numbers(stage: Stage) -> [u64; 4]
         Stage::BehindA => [4, 0, 0, 0],
         Stage::BehindB => [5, 0, 0, 0],
         Stage::Ended => [6, 0, 0, 0],
-        Stage::Refused(refusal) => {
-            let cause = refusal.cause;
-            let number = cause.number();
-            [7, number, refusal.record, refusal.column]
-        }
+        Stage::Refused(refusal) => [7, refusal.cause.number(), refusal.record, refusal.column],
     }
-}
-
-// A yes or no as a number.
-fn as_number(holds: bool) -> u64
-    ensures { result ≡ as_number holds }
-{
-    if holds {
-        return 1;
-    }
-    0
 }
 
 // The numbers of a state.
+#[tactic(auto, unfolding(crate::specs::PayrollState::feeding_numbers))]
 pub fn numbers(feeding: Feeding) -> [u64; STATE_NUMBERS]
     ensures { result ≡ feeding_numbers feeding }
 {
     let state = feeding.state;
-    let progress = feeding.progress;
-    let batch = state.batch;
-    let stage = state.stage;
-    let staged = stage_numbers(stage);
-    let is_return = as_number(state.is_return);
-    let answer = progress_row(progress);
+    let staged = stage_numbers(state.stage);
+    let answer = progress_row(feeding.progress);
     [
         staged[0],
         staged[1],
         staged[2],
         staged[3],
-        is_return,
+        u64::from(state.is_return),
         state.records,
         state.batches,
         state.payments,
         state.amount,
-        batch.records,
-        batch.details,
-        batch.sum,
+        state.batch.records,
+        state.batch.details,
+        state.batch.sum,
         answer[0],
         answer[1],
         answer[2],
@@ -87,6 +70,7 @@ pub fn numbers(feeding: Feeding) -> [u64; STATE_NUMBERS]
 }
 
 // The stage of any numbers: a refusal where the first is no stage's.
+#[tactic(auto, unfolding(crate::specs::PayrollState::stage_of))]
 fn stage_of(numbers: &[u64; STATE_NUMBERS]) -> Stage
     ensures { result ≡ stage_of numbers.now }
 {
@@ -102,6 +86,7 @@ fn stage_of(numbers: &[u64; STATE_NUMBERS]) -> Stage
 }
 
 // The running state of any numbers.
+#[tactic(auto, unfolding(crate::specs::PayrollState::running_of))]
 fn running_of(numbers: &[u64; STATE_NUMBERS]) -> Running
     ensures { result ≡ running_of numbers.now }
 {
@@ -121,11 +106,12 @@ fn running_of(numbers: &[u64; STATE_NUMBERS]) -> Running
 }
 
 // The answer that stands behind it: accepted, refused, or none yet.
-fn progress_of(numbers: &[u64; STATE_NUMBERS]) -> Progress
+#[tactic(auto, unfolding(crate::specs::PayrollState::progress_of))]
+fn progress_of(numbers: &[u64; STATE_NUMBERS]) -> Progress<Accepted>
     ensures { result ≡ progress_of numbers.now }
 {
     if numbers[19] != 0 {
-        return Progress::Answered(PayrollAnswer::Accepted(Accepted {
+        return Some(Ok(Accepted {
             records: numbers[15],
             batches: numbers[16],
             payments: numbers[17],
@@ -133,13 +119,9 @@ fn progress_of(numbers: &[u64; STATE_NUMBERS]) -> Progress
         }));
     }
     if numbers[12] != 0 {
-        return Progress::Answered(PayrollAnswer::Refused(refusal_of(
-            numbers[12],
-            numbers[13],
-            numbers[14],
-        )));
+        return Some(Err(refusal_of(numbers[12], numbers[13], numbers[14])));
     }
-    Progress::GoingOn
+    None
 }
 
 // The state of any numbers.

@@ -1,14 +1,15 @@
 -- `same_bytes` says of two lists that they are equal; what one byte of a set does to `has_byte`; and which byte it can be.
-use Prim.Native.Nat.{ℕ, ◌+◌, ◌≤◌, ◌<◌}
+use Prim.Native.Nat.{ℕ}
 use mathlib.Core.Path.{◌≡◌, refl, sym, ◌∙◌, ap, ap₂, subst}
 use mathlib.Core.Logic.{◌⊎◌, inl, inr}
 use mathlib.Core.List.{List, [], ◌∷◌}
-use mathlib.Core.Bool.{Bool, true, false, ◌||◌, false≢true}
+use mathlib.Core.Bool.{Bool, true, false, ◌&&◌, ◌||◌, false≢true}
+use Rattle.std.specs.Prelude.{nat_eq}
+use Rattle.std.specs.List.{list_any}
+use lib.Pointwise.{pointwise}
 use native.Mathlib.Omega.{arith}
-use native.Mathlib.Numerals.{add-one}
-use borrow.Author.Tests.{eq-eqb, ne_eqb, eqb-true}
-use lib.ListN.{length, get_or, drop, drop_of_length-le}
-use lib.Seq.{drop-cons}
+use borrow.Author.Tests.{eq-eqb, eqb-true}
+use lib.ListN.{length, get_or}
 use lib.Dec.{eqb}
 use Rattle.text.specs.declared.alphabet.Alphabet.{Alphabet}
 use Rattle.text.specs.Alphabet.{allowed, holds_only}
@@ -34,33 +35,25 @@ same_equal (a ∷ s) (b ∷ t) e =
 pub equal_same : (s t : List ℕ) → s ≡ t → same_bytes s t ≡ true
 equal_same s t e = subst (λ (l : List ℕ). same_bytes s l ≡ true) e (same_self s)
 
--- so an answer that is true exactly of equal lists is `same_bytes`
-pub is_same : (r : Bool) (s t : List ℕ) → (r ≡ true → s ≡ t) → (s ≡ t → r ≡ true) → r ≡ same_bytes s t
-is_same r s t to from = of r (same_bytes s t) (λ e. equal_same s t (to e)) (λ e. from (same_equal s t e))
-  where
-    of : (p q : Bool) → (p ≡ true → q ≡ true) → (q ≡ true → p ≡ true) → p ≡ q
-    of true q f g = sym (f refl)
-    of false true f g = g refl
-    of false false f g = refl
+-- what `==` answers of two lists
+pub pair_by_pair : (s t : List ℕ) → pointwise nat_eq s t ≡ same_bytes s t
+unfolding same_bytes
+pair_by_pair [] [] = refl
+pair_by_pair [] (b ∷ t) = refl
+pair_by_pair (a ∷ s) [] = refl
+pair_by_pair (a ∷ s) (b ∷ t) = ap (λ q. eqb a b && q) (pair_by_pair s t)
 
--- the byte stands here, or the search goes on behind it, or there is no byte left
-pub byte_here : (b : ℕ) (s : List ℕ) (i : ℕ) → i < length s → get_or s i 0 ≡ b → has_byte b (drop i s) ≡ true
+-- what `contains` answers of a set
+one_by_one : (b : ℕ) (set : List ℕ) → list_any (λ x. nat_eq x b) set ≡ has_byte b set
 unfolding has_byte
-byte_here b s i h e = rw (drop-cons s i 0 h, eq-eqb _ _ e)
-
-pub byte_on : (b : ℕ) (s : List ℕ) (i : ℕ) → i < length s → (get_or s i 0 ≡ b → ⊥) → has_byte b (drop i s) ≡ has_byte b (drop (i + 1) s)
-unfolding has_byte
-byte_on b s i h e = rw (drop-cons s i 0 h, add-one, ne_eqb _ _ e)
-
-pub byte_gone : (b : ℕ) (s : List ℕ) (i : ℕ) → length s ≤ i → has_byte b (drop i s) ≡ false
-unfolding has_byte
-byte_gone b s i h = rw (drop_of_length-le s h)
+one_by_one b [] = refl
+one_by_one b (x ∷ set) = ap (λ q. eqb x b || q) (one_by_one b set)
 
 -- a part of one byte, and a part of another length
-pub one_byte : (set s : List ℕ) → length s ≡ 1 → has_byte (get_or s 0 0) set ≡ one_byte_of set s
+pub one_byte : (set s : List ℕ) → length s ≡ 1 → list_any (λ x. nat_eq x (get_or s 0 0)) set ≡ one_byte_of set s
 unfolding one_byte_of
 one_byte set [] e = absurd (omega arith)
-one_byte set (b ∷ []) e = refl
+one_byte set (b ∷ []) e = one_by_one b set
 one_byte set (b ∷ c ∷ s) e = absurd (omega arith)
 
 pub not_one_byte : (set s : List ℕ) → (length s ≡ 1 → ⊥) → false ≡ one_byte_of set s

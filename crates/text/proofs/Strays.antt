@@ -1,7 +1,7 @@
 -- Laws of the search for a byte that a part may not hold: what one byte does to it, and to whether a part holds only allowed bytes;
 -- and that the search passes such bytes.
-use Prim.Native.Nat.{ℕ, zero, suc, ◌+◌, ◌-◌, ◌≤◌, ◌<◌}
-use mathlib.Core.Path.{◌≡◌, refl, ◌∙◌, ap}
+use Prim.Native.Nat.{ℕ, zero, suc, ◌+◌, ◌*◌, ◌/◌, ◌≤◌, ◌<◌}
+use mathlib.Core.Path.{◌≡◌, refl, sym, ◌∙◌, ap, ap₂}
 use mathlib.Core.List.{List, [], ◌∷◌}
 use mathlib.Core.Bool.{Bool, true, false, cond, ◌&&◌, false≢true}
 use native.Mathlib.Numerals.{add-one}
@@ -9,9 +9,12 @@ use native.Mathlib.Omega.{arith}
 use lib.ListN.{length, get_or, take, drop, length-drop, drop_of_length-le}
 use lib.Seq.{drop-cons, drop-drop}
 use Rattle.text.specs.declared.alphabet.Alphabet.{Alphabet}
-use Rattle.text.specs.declared.alphabet.Stray.{Stray}
-use Rattle.text.specs.declared.alphabet.Stray.TheVariants.{At, Nowhere}
-use Rattle.text.specs.Alphabet.{allowed, holds_only, first_stray, is_nowhere}
+use Rattle.std.specs.List.{prefix_len, take_while}
+use Rattle.std.specs.Simd.{first_chunks}
+use Rattle.std.proofs.lemmas.List.Folds.{length-prefix_len}
+use Rattle.std.proofs.lemmas.List.Sums.{prefix_len-le-length}
+use Rattle.std.specs.Prelude.{Option, Some, None, is_none}
+use Rattle.text.specs.Alphabet.{allowed, holds_only, first_stray}
 
 -- an allowed byte: the search goes on behind it
 pub passed : (a : Alphabet) (s : List ℕ) (i : ℕ) → i < length s → allowed a (get_or s i 0) ≡ true →
@@ -20,12 +23,12 @@ unfolding first_stray
 passed a s i h e = rw (drop-cons s i 0 h, add-one, e)
 
 -- any other byte: the search ends there
-pub found : (a : Alphabet) (s : List ℕ) (i : ℕ) → i < length s → allowed a (get_or s i 0) ≡ false → first_stray a i (drop i s) ≡ At i
+pub found : (a : Alphabet) (s : List ℕ) (i : ℕ) → i < length s → allowed a (get_or s i 0) ≡ false → first_stray a i (drop i s) ≡ Some i
 unfolding first_stray
 found a s i h e = rw (drop-cons s i 0 h, e)
 
 -- no byte left: there is none
-pub ended : (a : Alphabet) (s : List ℕ) (i : ℕ) → length s ≤ i → first_stray a i (drop i s) ≡ Nowhere
+pub ended : (a : Alphabet) (s : List ℕ) (i : ℕ) → length s ≤ i → first_stray a i (drop i s) ≡ None
 unfolding first_stray
 ended a s i h = rw (drop_of_length-le s h)
 
@@ -56,23 +59,55 @@ over a i (suc n) (b ∷ s) h e = one (allowed a b) e (over a (suc i) n s (omega 
   where
     one : (p : Bool) → p && holds_only a (take n s) ≡ true →
         (holds_only a (take n s) ≡ true → first_stray a (suc i) s ≡ first_stray a (suc i + n) (drop n s)) →
-        cond p (first_stray a (suc i) s) (At i) ≡ first_stray a (i + suc n) (drop n s)
+        cond p (first_stray a (suc i) s) (Some i) ≡ first_stray a (i + suc n) (drop n s)
     one true f w = w f ∙ ap (λ (k : ℕ). first_stray a k (drop n s)) (omega arith)
     one false f w = absurd (false≢true f)
 
--- so a block of allowed bytes from a place on is passed
-pub block_passed : (a : Alphabet) (s : List ℕ) (i n : ℕ) → i + n ≤ length s → holds_only a (take (i + n - i) (drop i s)) ≡ true →
-    first_stray a i (drop i s) ≡ first_stray a (i + n) (drop (i + n) s)
-block_passed a s i n h e =
-    let k : i + n - i ≡ n = omega arith in
-    over a i n (drop i s) (omega (arith, length-drop i s)) (rw k at e) ∙ ap (first_stray a (i + n)) (drop-drop n i s)
+-- so the blocks of allowed bytes at the front are passed, of k blocks that there are
+blocks_over : (a : Alphabet) (i k : ℕ) (s : List ℕ) → k * 16 ≤ length s →
+    first_stray a i s ≡ first_stray a (i + prefix_len (holds_only a) (first_chunks 16 k s) * 16) (drop (prefix_len (holds_only a) (first_chunks 16 k s) * 16) s)
+blocks_over a i zero s h = ap (λ (n : ℕ). first_stray a n s) (omega arith)
+blocks_over a i (suc k) s h =
+    one (holds_only a (take 16 s)) refl
+    (blocks_over a (i + 16) k (drop 16 s) (omega (arith, length-drop 16 s)))
+  where
+    more : ℕ
+    more = prefix_len (holds_only a) (first_chunks 16 k (drop 16 s))
+
+    one : (t : Bool) → holds_only a (take 16 s) ≡ t →
+        first_stray a (i + 16) (drop 16 s) ≡ first_stray a (i + 16 + more * 16) (drop (more * 16) (drop 16 s)) →
+        first_stray a i s ≡ first_stray a (i + cond t (1 + more) 0 * 16) (drop (cond t (1 + more) 0 * 16) s)
+    one true e w =
+        let place : i + 16 + more * 16 ≡ i + (1 + more) * 16 = omega arith in
+        let left : 16 + more * 16 ≡ (1 + more) * 16 = omega arith in
+        over a i 16 s (omega arith) e ∙ w ∙ ap₂ (first_stray a) place (drop-drop (more * 16) 16 s ∙ ap (λ (n : ℕ). drop n s) left)
+    one false e w = ap (λ (n : ℕ). first_stray a n s) (omega arith)
+
+blocks_of : (k : ℕ) (s : List ℕ) → length (first_chunks 16 k s) ≡ k
+blocks_of zero s = refl
+blocks_of (suc k) s = ap suc (blocks_of k (drop 16 s))
+
+-- of the blocks that a part has
+pub blocks_passed : (a : Alphabet) (n : ℕ) (s : List ℕ) → n ≡ length (take_while (holds_only a) (first_chunks 16 (length s / 16) s)) →
+    first_stray a (n * 16) (drop (n * 16) s) ≡ first_stray a 0 s
+blocks_passed a n s e =
+    let blocks = first_chunks 16 (length s / 16) s in
+    let count : n ≡ prefix_len (holds_only a) blocks = e ∙ length-prefix_len (holds_only a) blocks in
+    let start : 0 + prefix_len (holds_only a) blocks * 16 ≡ n * 16 = omega arith in
+    let left : prefix_len (holds_only a) blocks * 16 ≡ n * 16 = omega arith in
+    sym (blocks_over a 0 (length s / 16) s (omega arith) ∙ ap₂ (first_stray a) start (ap (λ (m : ℕ). drop m s) left))
+
+pub blocks_inside : (a : Alphabet) (n : ℕ) (s : List ℕ) → n ≡ length (take_while (holds_only a) (first_chunks 16 (length s / 16) s)) → n * 16 ≤ length s
+blocks_inside a n s e =
+    let blocks = first_chunks 16 (length s / 16) s in
+    omega (arith, e ∙ length-prefix_len (holds_only a) blocks, prefix_len-le-length (holds_only a) blocks, blocks_of (length s / 16) s)
 
 -- a part holds only allowed bytes exactly where the search finds none
-pub nowhere : (a : Alphabet) (i : ℕ) (s : List ℕ) → holds_only a s ≡ is_nowhere (first_stray a i s)
+pub nowhere : (a : Alphabet) (i : ℕ) (s : List ℕ) → holds_only a s ≡ is_none (first_stray a i s)
 unfolding holds_only first_stray
 nowhere a i [] = refl
 nowhere a i (b ∷ s) = one (allowed a b) (first_stray a (suc i) s) (nowhere a (suc i) s)
   where
-    one : (p : Bool) {q : Bool} (rest : Stray) → q ≡ is_nowhere rest → p && q ≡ is_nowhere (cond p rest (At i))
+    one : (p : Bool) {q : Bool} (rest : Option ℕ) → q ≡ is_none rest → p && q ≡ is_none (cond p rest (Some i))
     one true rest e = e
     one false rest e = refl

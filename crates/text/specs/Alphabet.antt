@@ -1,9 +1,7 @@
 -- Which bytes a part may hold.
-use Rattle.std.specs.Prelude.{ℕ, suc, List, [], ◌∷◌, Bool, true, false, cond, ◌&&◌, ◌||◌, leb, eqb}
+use Rattle.std.specs.Prelude.{ℕ, suc, List, [], ◌∷◌, Bool, true, cond, ◌&&◌, ◌||◌, leb, eqb, Option, Some, None}
 use Rattle.text.specs.declared.alphabet.Alphabet.{Alphabet}
 use Rattle.text.specs.declared.alphabet.Alphabet.TheVariants.{Digits, CardText, PlainAscii, DigitsAndStars}
-use Rattle.text.specs.declared.alphabet.Stray.{Stray}
-use Rattle.text.specs.declared.alphabet.Stray.TheVariants.{At, Nowhere}
 
 -- the bytes from low to high
 abbrev pub within : ℕ → ℕ → ℕ → Bool
@@ -38,10 +36,6 @@ holds_only a [] = true
 holds_only a (b ∷ s) = allowed a b && holds_only a s
 
 -- the first place, counted on from i, whose byte is not of this alphabet
-unfoldable pub first_stray : Alphabet → ℕ → List ℕ → Stray
-first_stray a i [] = Nowhere
-first_stray a i (b ∷ s) = cond (allowed a b) (first_stray a (suc i) s) (At i)
-
-abbrev pub is_nowhere : Stray → Bool
-is_nowhere Nowhere = true
-is_nowhere (At i) = false
+unfoldable pub first_stray : Alphabet → ℕ → List ℕ → Option ℕ
+first_stray a i [] = None
+first_stray a i (b ∷ s) = cond (allowed a b) (first_stray a (suc i) s) (Some i)

@@ -1,13 +1,15 @@
 // Which bytes a part may hold.
-ghost use Rattle.std.specs.Prelude.{◌≡◌, drop};
-ghost use Rattle.text.specs.Alphabet.{within, card_text, allowed, first_stray, holds_only};
+ghost use Rattle.std.specs.Prelude.{◌≡◌, ◌/◌, length};
+ghost use Rattle.std.specs.List.{take_while};
+ghost use Rattle.std.specs.Simd.{first_chunks};
+ghost use Rattle.text.specs.Alphabet.{allowed, first_stray, holds_only};
 
 // The kinds of part, by the bytes that they may hold.
 #[derive(Clone, Copy)]
 pub enum Alphabet {
     // N of a card file, dates, times, amounts: 0 to 9.
     Digits,
-    // AN of a card file.
+    // AN of a card file: 32 to 126, and 160 to 255 for letters with accents.
     CardText,
     // 32 to 126.
     PlainAscii,
@@ -15,50 +17,29 @@ pub enum Alphabet {
     DigitsAndStars,
 }
 
-// The first place of a part that holds a byte it may not hold.
-#[derive(Clone, Copy)]
-pub enum Stray {
-    At(usize),
-    Nowhere,
-}
-
-// Whether a byte is one of those from low to high.
-fn is_within(low: u8, high: u8, byte: u8) -> bool
-    ensures { result ≡ within low high byte }
-{
-    low <= byte && byte <= high
-}
-
-// Whether AN of a card file may hold a byte: 32 to 126, and 160 to 255 for letters with accents.
-fn is_card_text(byte: u8) -> bool
-    ensures { result ≡ card_text byte }
-{
-    is_within(b' ', b'~', byte) || is_within(160, 255, byte)
-}
-
 // Whether a part of this alphabet may hold this byte.
+#[tactic(auto, using(std::proofs::lemmas::Bool::Decides::nat_tests), unfolding(crate::specs::Alphabet::allowed))]
 pub fn allows(alphabet: Alphabet, byte: u8) -> bool
     ensures { result ≡ allowed alphabet byte }
 {
     match alphabet {
-        Alphabet::Digits => is_within(b'0', b'9', byte),
-        Alphabet::CardText => is_card_text(byte),
-        Alphabet::PlainAscii => is_within(b' ', b'~', byte),
-        Alphabet::DigitsAndStars => byte == b'*' || is_within(b'0', b'9', byte),
+        Alphabet::Digits => byte.is_ascii_digit(),
+        Alphabet::CardText => matches!(byte, b' '..=b'~' | 160..=255),
+        Alphabet::PlainAscii => matches!(byte, b' '..=b'~'),
+        Alphabet::DigitsAndStars => byte == b'*' || byte.is_ascii_digit(),
     }
 }
 
 // Whether every byte is of this alphabet. There is no way out before the end, so that the machine can look at many bytes at once.
+#[tactic(auto, using(crate::proofs::Strays::stained, crate::proofs::Strays::pure_on, crate::proofs::Strays::pure_end))]
 pub fn holds_only(alphabet: Alphabet, part: &[u8]) -> bool
     ensures { result ≡ holds_only alphabet part.now }
 {
     let mut only = true;
-    let mut i = 0;
-    while i < part.len() {
-        if !allows(alphabet, part[i]) {
+    for &byte in part {
+        if !allows(alphabet, byte) {
             only = false;
         }
-        i += 1;
     }
     only
 }
@@ -66,34 +47,26 @@ pub fn holds_only(alphabet: Alphabet, part: &[u8]) -> bool
 // How many bytes are passed together where all are of the alphabet.
 const BLOCK: usize = 16;
 
-// A place behind blocks of this alphabet, from which the search goes on.
-fn behind_pure_blocks(alphabet: Alphabet, part: &[u8]) -> usize
-    ensures { first_stray alphabet result (drop result part.now) ≡ first_stray alphabet 0 part.now }
+// How many blocks at the front are all of this alphabet.
+fn pure_blocks(alphabet: Alphabet, part: &[u8]) -> usize
+    ensures { result ≡ length (take_while (holds_only alphabet) (first_chunks 16 (length part.now / 16) part.now)) }
 {
-    if part.len() < BLOCK {
-        return 0;
-    }
-    let last = part.len() - BLOCK;
-    let mut i = 0;
-    while i <= last {
-        if !holds_only(alphabet, &part[i..i + BLOCK]) {
-            return i;
-        }
-        i += BLOCK;
-    }
-    i
+    let (blocks, _) = part.as_chunks::<BLOCK>();
+    blocks
+        .iter()
+        .take_while(|block| holds_only(alphabet, *block))
+        .count()
 }
 
 // The first place whose byte is not of this alphabet.
-pub fn first_stray(alphabet: Alphabet, part: &[u8]) -> Stray
+#[tactic(auto, using(crate::proofs::Strays::passed, crate::proofs::Strays::found, crate::proofs::Strays::ended))]
+pub fn first_stray(alphabet: Alphabet, part: &[u8]) -> Option<usize>
     ensures { result ≡ first_stray alphabet 0 part.now }
 {
-    let mut i = behind_pure_blocks(alphabet, part);
-    while i < part.len() {
+    for i in pure_blocks(alphabet, part) * BLOCK..part.len() {
         if !allows(alphabet, part[i]) {
-            return Stray::At(i);
+            return Some(i);
         }
-        i += 1;
     }
-    Stray::Nowhere
+    None
 }

@@ -6,42 +6,35 @@ ghost use Rattle.text.specs.Weighed.{value_if_digits};
 
 use crate::alphabet::Alphabet;
 
-// What a part says when it is read as a number.
+// Why a part is read as no number.
 #[derive(Clone, Copy)]
-pub enum Number {
-    Of(u64),
+pub enum NoNumber {
     NotDigits,
     // Digits, and more of them than are read.
     TooLong,
 }
 
-impl Number {
-    // The number that was read; 0 where there is none.
-    pub fn or_zero(self) -> u64
-        ensures { result ≡ plain_number self }
-    {
-        match self {
-            Number::Of(n) => n,
-            Number::NotDigits => 0,
-            Number::TooLong => 0,
-        }
-    }
+// The number that was read; 0 where there is none.
+pub fn or_zero(number: Result<u64, NoNumber>) -> u64
+    ensures { result ≡ plain_number number }
+{
+    number.unwrap_or(0)
 }
 
 // The longest number that is read: any 18 digits stay below 2^64.
 const MOST_DIGITS: usize = 18;
 
 // The number that the digits write; no digit at all writes 0.
-pub fn number_of(part: &[u8]) -> Number
+pub fn number_of(part: &[u8]) -> Result<u64, NoNumber>
     ensures { result ≡ number_of part.now }
 {
     if !crate::alphabet::holds_only(Alphabet::Digits, part) {
-        return Number::NotDigits;
+        return Err(NoNumber::NotDigits);
     }
     if MOST_DIGITS < part.len() {
-        return Number::TooLong;
+        return Err(NoNumber::TooLong);
     }
-    Number::Of(value_of(part))
+    Ok(value_of(part))
 }
 
 // The value of a row of digits, of which there are few enough.
@@ -50,10 +43,8 @@ fn value_of(digits: &[u8]) -> u64
     ensures { result ≡ value_of digits.now }
 {
     let mut value: u64 = 0;
-    let mut i = 0;
-    while i < digits.len() {
-        value = value * 10 + (digits[i] - b'0') as u64;
-        i += 1;
+    for digit in digits {
+        value = value * 10 + u64::from(*digit - b'0');
     }
     value
 }
@@ -70,14 +61,9 @@ pub fn value_if_digits(part: &[u8]) -> u64
     }
     let mut value: u64 = 0;
     let mut zeros: u64 = 0;
-    let mut i = 0;
-    while i < part.len() {
-        value = value * 10 + part[i] as u64;
+    for byte in part {
+        value = value * 10 + u64::from(*byte);
         zeros = zeros * 10 + b'0' as u64;
-        i += 1;
     }
-    if value < zeros {
-        return 0;
-    }
-    value - zeros
+    value.saturating_sub(zeros)
 }

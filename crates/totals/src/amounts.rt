@@ -2,14 +2,16 @@
 ghost use Rattle.std.specs.Prelude.{◌≡◌};
 ghost use Rattle.totals.specs.Amounts.{agreeing, added_amounts, no_totals, one_sale, added_totals};
 
-#[derive(Clone, Copy)]
+use crate::sum;
+
+#[derive(Clone, Copy, Default)]
 pub struct Amounts {
     pub gross: u64,
     pub discount: u64,
     pub net: u64,
 }
 
-#[derive(Clone, Copy)]
+#[derive(Clone, Copy, Default)]
 pub struct Totals {
     pub sales: u64,
     pub amounts: Amounts,
@@ -20,10 +22,7 @@ impl Amounts {
     pub fn agree(self) -> bool
         ensures { result ≡ agreeing self }
     {
-        match crate::sum::checked(self.discount, self.net) {
-            crate::sum::Sum::Of(n) => self.gross == n,
-            crate::sum::Sum::Over => false,
-        }
+        sum::checked(self.discount, self.net) == Some(self.gross)
     }
 
     // Both, each amount at most the largest number of 64 bits.
@@ -31,9 +30,9 @@ impl Amounts {
         ensures { result ≡ added_amounts self other }
     {
         Amounts {
-            gross: crate::sum::added(self.gross, other.gross),
-            discount: crate::sum::added(self.discount, other.discount),
-            net: crate::sum::added(self.net, other.net),
+            gross: sum::added(self.gross, other.gross),
+            discount: sum::added(self.discount, other.discount),
+            net: sum::added(self.net, other.net),
         }
     }
 }
@@ -43,14 +42,7 @@ impl Totals {
     pub fn none() -> Totals
         ensures { result ≡ no_totals }
     {
-        Totals {
-            sales: 0,
-            amounts: Amounts {
-                gross: 0,
-                discount: 0,
-                net: 0,
-            },
-        }
+        Totals::default()
     }
 
     // One sale of these amounts.
@@ -64,11 +56,9 @@ impl Totals {
     pub fn added(self, other: Totals) -> Totals
         ensures { result ≡ added_totals self other }
     {
-        let mine = self.amounts;
-        let theirs = other.amounts;
         Totals {
-            sales: crate::sum::added(self.sales, other.sales),
-            amounts: mine.added(theirs),
+            sales: sum::added(self.sales, other.sales),
+            amounts: self.amounts.added(other.amounts),
         }
     }
 }

@@ -4,7 +4,7 @@ ghost use Rattle.totals.specs.TwoSets.{no_sets, one_sale_more, both_sets};
 
 use crate::amounts::Totals;
 
-#[derive(Clone, Copy)]
+#[derive(Clone, Copy, Default)]
 pub struct TwoSets {
     pub forecast: Totals,
     pub settled: Totals,
@@ -15,27 +15,23 @@ impl TwoSets {
     pub fn none() -> TwoSets
         ensures { result ≡ no_sets }
     {
-        TwoSets {
-            forecast: Totals::none(),
-            settled: Totals::none(),
-        }
+        TwoSets::default()
     }
 
     // One sale more, in its own set.
     pub fn one_more(self, forecast: bool, sale: Totals) -> TwoSets
         ensures { result ≡ one_sale_more forecast sale self }
     {
-        let forecasts = self.forecast;
-        let settled = self.settled;
         if forecast {
-            return TwoSets {
-                forecast: forecasts.added(sale),
-                settled,
-            };
-        }
-        TwoSets {
-            forecast: forecasts,
-            settled: settled.added(sale),
+            TwoSets {
+                forecast: self.forecast.added(sale),
+                settled: self.settled,
+            }
+        } else {
+            TwoSets {
+                forecast: self.forecast,
+                settled: self.settled.added(sale),
+            }
         }
     }
 
@@ -43,8 +39,6 @@ impl TwoSets {
     pub fn both(self) -> Totals
         ensures { result ≡ both_sets self }
     {
-        let forecasts = self.forecast;
-        let settled = self.settled;
-        forecasts.added(settled)
+        self.forecast.added(self.settled)
     }
 }

@@ -1,12 +1,11 @@
--- Laws of a text that is put into a buffer: by the byte, as the loop goes; two texts one behind the other are one; and a text for which there is room
+-- Laws of a text that is put into a buffer: of the parts that it leaves; two texts one behind the other are one; and a text for which there is room
 -- stands there whole.
-use Prim.Native.Nat.{ℕ, zero, suc, ◌+◌, ◌≤◌, ◌<◌, min}
+use Prim.Native.Nat.{ℕ, zero, suc, ◌+◌, ◌-◌, ◌≤◌, min}
 use mathlib.Core.Path.{◌≡◌, refl, sym, ◌∙◌, ap, subst}
 use mathlib.Core.List.{List, [], ◌∷◌, ◌++◌, append-nil}
 use native.Mathlib.Omega.{arith}
 use native.Mathlib.Numerals.{unary_clauses}
-use lib.ListN.{length, take, drop, set, get_or, length-set, length-append, drop_of_length-le}
-use lib.Seq.{drop-cons}
+use lib.ListN.{length, take, drop, length-append, length-drop}
 use Rattle.wording.specs.Put.{over, over_at, Puts}
 
 -- the buffer keeps its length
@@ -38,12 +37,19 @@ full zero t (b ∷ s) h = absurd (omega arith)
 full (suc at) t [] h = refl
 full (suc at) t (b ∷ s) h = ap (λ (l : List ℕ). b ∷ l) (full at t s (omega arith))
 
--- one byte of a text
-one_byte : (at : ℕ) (x : ℕ) (t s : List ℕ) → at < length s → over_at at (x ∷ t) s ≡ over_at (suc at) t (set s at x)
+-- by its parts: what stands before the text, as much of it as there is room for, and what stands behind that
+over_parts : (t s : List ℕ) → over t s ≡ take (min (length t) (length s)) t ++ drop (min (length t) (length s)) s
+unfolding over
+over_parts [] [] = refl
+over_parts [] (b ∷ s) = simp unary_clauses refl
+over_parts (x ∷ t) [] = simp unary_clauses refl
+over_parts (x ∷ t) (b ∷ s) = simp unary_clauses (ap (λ (l : List ℕ). x ∷ l) (over_parts t s))
+
+at_parts : (at : ℕ) (t s : List ℕ) → over_at at t s ≡ take at s ++ over t (drop at s)
 unfolding over_at over
-one_byte at x t [] h = absurd (omega arith)
-one_byte zero x t (b ∷ s) h = refl
-one_byte (suc at) x t (b ∷ s) h = ap (λ (l : List ℕ). b ∷ l) (one_byte at x t s (omega arith))
+at_parts zero t s = refl
+at_parts (suc at) t [] = refl
+at_parts (suc at) t (b ∷ s) = ap (λ (l : List ℕ). b ∷ l) (at_parts at t s)
 
 -- a text behind another is the rest of both
 over_both : (t u s : List ℕ) → over_at (length t) u (over t s) ≡ over (t ++ u) s
@@ -108,44 +114,19 @@ counted {t} {b} {b₁} {e} h p =
     let f : e ≡ length t = omega (arith, p.ends) in
     f ∙ sym (ap length (whole h p))
 
--- the loop: the rest of the text is still to be put behind what is done
-pub record Done (text before : List ℕ) (at : ℕ) (after : List ℕ) (end i : ℕ) : Type 0 where
-  pub inside : end ≤ length after
-  pub place : end ≡ at + i
-  pub taken : i ≤ length text
-  pub length_kept : length after ≡ length before
-  pub left : over_at end (drop i text) after ≡ over_at at text before
-
-pub begun : (text before : List ℕ) (at : ℕ) → at < length before → Done text before at before at 0
-begun text before at h = record { inside = omega arith; place = omega arith; taken = omega arith; length_kept = refl; left = refl }
-
-pub one_more : {text before after : List ℕ} {at end i : ℕ} (byte other : ℕ) → byte ≡ get_or text i other → i < length text → end < length after →
-    Done text before at after end i → Done text before at (set after end byte) (end + 1) (i + 1)
-one_more {text} {before} {after} {at} {end} {i} byte other is h k d =
-    let l = length-set after end byte in
-    let e : end + 1 ≡ suc end = omega arith in
-    let f : i + 1 ≡ suc i = omega arith in
+-- a part of a buffer that takes the bytes of a text for which it has room
+pub copied : {t s part : List ℕ} {at : ℕ} (start size : ℕ) → start ≡ min at (length s) → size ≡ min (length t) (length s - start) →
+    part ≡ take size t → Puts t s at (start + size) (take start s ++ (part ++ drop (start + size - start) (drop start s)))
+copied {t} {s} {part} {at} start size e f is =
+    let room : min (length t) (length (drop start s)) ≡ size = rw length-drop (sym f) in
+    let gone : start + size - start ≡ size = omega arith in
+    let whole : over t (drop start s) ≡ part ++ drop (start + size - start) (drop start s) =
+    rw (gone, is) (rw room at (over_parts t (drop start s))) in
     record {
-      inside = omega (arith, l);
-      place = omega (arith, d.place);
-      taken = omega arith;
-      length_kept = l ∙ d.length_kept;
-      left =
-          rw (e, f) (sym (one_byte end byte (drop (suc i) text) after k) ∙ ap (λ (b : ℕ). over_at end (b ∷ drop (suc i) text) after) is ∙
-          ap (λ (t : List ℕ). over_at end t after) (sym (drop-cons text i other h)) ∙ d.left);
+      ends = omega arith;
+      leaves = ap (λ (l : List ℕ). take start s ++ l) (sym whole) ∙ sym (at_parts start t s) ∙ ap (λ (k : ℕ). over_at k t s) e ∙ at_most at t s;
     }
 
--- at the end of the text, and of the buffer
-pub all_put : {text before after : List ℕ} {at end i : ℕ} → length text ≤ i → Done text before at after end i → Puts text before at end after
-all_put {text} {before} {after} {at} {end} {i} h d =
-    record {
-      ends = omega (arith, d.place, d.taken, d.inside, d.length_kept);
-      leaves = sym (none end after) ∙ ap (λ (t : List ℕ). over_at end t after) (sym (drop_of_length-le text h)) ∙ d.left;
-    }
-
-pub no_room : {text before after : List ℕ} {at end i : ℕ} → length after ≤ end → Done text before at after end i → Puts text before at end after
-no_room {text} {before} {after} {at} {end} {i} h d =
-    record {
-      ends = omega (arith, d.place, d.taken, d.inside, d.length_kept);
-      leaves = sym (full end (drop i text) after h) ∙ d.left;
-    }
+-- no byte is put yet
+pub begun : {s : List ℕ} {at end : ℕ} → end ≡ min at (length s) → Puts [] s at end s
+begun {s} {at} e = record { ends = omega arith; leaves = sym (none at s) }

@@ -1,9 +1,11 @@
 -- A text that is shown with a mark holds no control byte, so it has no LF, whatever it held.
-use Prim.Native.Nat.{ℕ}
+use Prim.Native.Nat.{ℕ, ◌+◌, ◌<◌}
 use mathlib.Core.Path.{◌≡◌, refl, sym, ◌∙◌, ap}
-use mathlib.Core.List.{List, [], ◌∷◌, ◌++◌}
+use mathlib.Core.List.{List, [], ◌∷◌, ◌++◌, map-append}
 use mathlib.Core.Bool.{Bool, true, false, cond}
-use lib.ListN.{get_or, get_or-map}
+use lib.ListN.{length, take, get_or, get_or-map}
+use lib.Seq.{take-suc}
+use native.Mathlib.Numerals.{add-one}
 use lib.Dec.{eqb}
 use borrow.Author.Tests.{eqb-true}
 use Rattle.lines.specs.Lines.{lf, no_lf}
@@ -12,6 +14,11 @@ use Rattle.wording.specs.Shown.{is_control, shown_byte, shown_as}
 -- each byte of it: the text's own as it is shown; behind its end stands the mark, since 0 is a control byte
 pub at_place : (mark : ℕ) (s : List ℕ) (i : ℕ) → get_or (shown_as mark s) i mark ≡ shown_byte mark (get_or s i 0)
 at_place mark s i = get_or-map (shown_byte mark) s i 0
+
+-- one byte more of it
+pub one_shown : (mark : ℕ) (s : List ℕ) (i : ℕ) {b : ℕ} → i < length s → b ≡ shown_byte mark (get_or s i 0) →
+    shown_as mark (take i s) ++ (b ∷ []) ≡ shown_as mark (take (i + 1) s)
+one_shown mark s i h e = rw (add-one, take-suc s i 0, map-append, e) refl
 
 -- an LF is a control byte
 no_lf_lem : (b : ℕ) → is_control b ≡ false → eqb b lf ≡ false

@@ -8,19 +8,10 @@ ghost use Rattle.wording.specs.Shown.{shown_byte, shown_as};
 pub fn text(text: &[u8], out: &mut [u8], at: usize) -> usize
     ensures { Puts text.now out.old at result out.new }
 {
-    if out.len() <= at {
-        return out.len();
-    }
-    let mut end = at;
-    let mut i = 0;
-    while i < text.len() {
-        if out.len() <= end {
-            break;
-        }
-        out[end] = text[i];
-        end += 1;
-        i += 1;
-    }
+    let start = at.min(out.len());
+    let size = text.len().min(out.len() - start);
+    let end = start + size;
+    out[start..end].copy_from_slice(&text[..size]);
     end
 }
 
@@ -28,31 +19,16 @@ pub fn text(text: &[u8], out: &mut [u8], at: usize) -> usize
 fn shown_byte(byte: u8, mark: u8) -> u8
     ensures { result ≡ shown_byte mark byte }
 {
-    if byte < 32 {
-        return mark;
-    }
-    if byte == 127 {
-        return mark;
-    }
-    byte
+    if byte.is_ascii_control() { mark } else { byte }
 }
 
 // Puts a text as `text` does, with the mark for each control byte, so that it stays on one line.
 pub fn shown(text: &[u8], mark: u8, out: &mut [u8], at: usize) -> usize
     ensures { Puts (shown_as mark text.now) out.old at result out.new }
 {
-    if out.len() <= at {
-        return out.len();
-    }
-    let mut end = at;
-    let mut i = 0;
-    while i < text.len() {
-        if out.len() <= end {
-            break;
-        }
-        out[end] = shown_byte(text[i], mark);
-        end += 1;
-        i += 1;
+    let mut end = at.min(out.len());
+    for byte in text {
+        end = self::text(&[shown_byte(*byte, mark)], out, end);
     }
     end
 }

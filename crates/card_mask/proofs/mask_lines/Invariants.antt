@@ -5,8 +5,8 @@ use lib.ListN.{length}
 use Rattle.card_mask.proofs.Copies.{Sofar}
 use Rattle.card_mask.proofs.mask_lines.Given as goal
 
-abbrev pub invariant-loop-at : goal.invariant-loop-at
-invariant-loop-at l = Sofar l.initial.bytes l.at l.bytes
+abbrev pub invariant-loop-end : goal.invariant-loop-end
+invariant-loop-end l = Sofar l.initial.bytes l.at l.bytes
 
-abbrev pub decreases-loop-at : goal.decreases-loop-at
-decreases-loop-at l = length l.initial.bytes - l.at
+abbrev pub decreases-loop-end : goal.decreases-loop-end
+decreases-loop-end l = length l.initial.bytes - l.at

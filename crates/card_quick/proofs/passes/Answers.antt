@@ -4,7 +4,7 @@ use mathlib.Core.Bool.{◌&&◌}
 use native.Mathlib.Omega.{arith}
 use lib.ListN.{length, length-take}
 use lib.Seq.{length-take-le, take_all}
-use borrow.Author.Tests.{eq-eqb, ne_eqb}
+use borrow.Author.Tests.{eq-eqb}
 use Rattle.card_quick.specs.Quick.{surely_right}
 use Rattle.card_quick.proofs.passes.Goals as goal
 
@@ -20,9 +20,3 @@ returns-then-bytes-eq-WIDTH c =
     let bytes = args.bytes.now in
     c.is_right.ensures ∙ ap (surely_right args.edition) (take_all 199 bytes (omega arith)) ∙
     ap (λ b. b && surely_right args.edition bytes) (sym (eq-eqb (length bytes) 199 (omega arith)))
-
-pub returns : goal.returns
-returns c =
-    let args = c.args in
-    let bytes = args.bytes.now in
-    ap (λ b. b && surely_right args.edition bytes) (sym (ne_eqb (length bytes) 199 (λ e. omega arith)))

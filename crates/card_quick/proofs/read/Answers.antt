@@ -33,6 +33,3 @@ returns-then-passes c =
     let same = take_all 199 bytes (omega (arith, is)) in
     ap cv (c.numbers.ensures ∙ ap quick_cv same) ∙
     quick_reads args.edition bytes is (both_right (eqb (length bytes) 199) (surely_right args.edition bytes) pass)
-
-pub returns : goal.returns
-returns c = c.read.ensures

@@ -1,20 +1,17 @@
 -- `demands::demands_hold` meets its contract: the theorems, gathered.
 use Rattle.edition.proofs.Editions.{unknown_fault, retired_fault}
 use Rattle.card_run.specs.Answer.{answer_of, card_file_row}
-use Rattle.card_run.specs.declared.answer.CardAnswer.TheVariants.{Refused}
 use Rattle.card_run.proofs.FileRows.{same_answer, refusal_told, is_accepted_lem}
 use Rattle.file_list.proofs.Lines.{one_line}
 use Rattle.card_kept.proofs.FirstFault.{first_fault_of_record, first_fault_decides}
 use Rattle.card_kept.proofs.Limits.{millionth_record, sum_of_no_trailer}
 use Rattle.card_kept.proofs.State.{state_known}
-use Rattle.payroll_file.specs.declared.answer.PayrollAnswer.TheVariants.{Refused as stopped}
 use Rattle.payroll_file.specs.Answer.{payroll_row}
 use Rattle.payroll_file.proofs.FileRows.{going_stage}
 use Rattle.payroll_kept.proofs.FirstFault as PayrollRecord
 use Rattle.payroll_kept.proofs.FirstFaultOfFile as PayrollFile
 use Rattle.payroll_kept.proofs.Limits.{limits, stays_at_top}
 use Rattle.payroll_kept.proofs.State as PayrollState
-use Rattle.payroll_stream.specs.declared.Progress.TheVariants.{Answered}
 use Rattle.payroll_stream.specs.Stream.{progress_row}
 use Rattle.payroll_stream.specs.Feeding.{answer_of as feeding_answer}
 use Rattle.payroll_stream.proofs.ProgressRows.{same_progress, is_answered}
@@ -34,6 +31,7 @@ use Rattle.demands.proofs.RulesKept.{card_rules_kept, payroll_rules_kept}
 use Rattle.demands.proofs.SameWay.{same_ways}
 use Rattle.demands.proofs.TwinsMade.{twins_made}
 use Rattle.demands.proofs.demands_hold.Goals as goal
+use Rattle.std.specs.Prelude.{Err, Some}
 
 pub returns : goal.returns
 unfolding card_file_row payroll_row progress_row
@@ -59,11 +57,11 @@ returns c =
       rows_of_file = rows_of_file;
       one_line_each = one_line;
       fed_as_whole = fed_as_whole;
-      refused_for_good = λ st refusal e. refused_for_good st refusal (same_answer (answer_of st) (Refused refusal) e);
+      refused_for_good = λ st refusal e. refused_for_good st refusal (same_answer (answer_of st) (Some (Err refusal)) e);
       after_accepted_close = λ st e. after_accepted_close st _ (is_accepted_lem (answer_of st) e);
       one_past_the_last = λ edition records e. one_past_the_last edition records _ (is_accepted_lem _ e);
       payroll_fed_as_whole = payroll_fed_as_whole;
-      payroll_refused_for_good = λ f refusal e. payroll_refused_for_good f refusal (same_progress (feeding_answer f) (Answered (stopped refusal)) e);
+      payroll_refused_for_good = λ f refusal e. payroll_refused_for_good f refusal (same_progress (feeding_answer f) (Some (Err refusal)) e);
       payroll_after_accepted_close = λ f e. payroll_after_accepted_close f _ (is_answered (feeding_answer f) e);
       in_chunks = as_the_whole;
       after_the_end_lem = after_the_end_lem;

@@ -1,20 +1,13 @@
--- `lines::next_lf` meets its contract. The invariant: searching on from i finds what searching from the start finds.
-use Prim.Native.Nat.{◌-◌}
-use mathlib.Core.Path.{◌≡◌, sym, ◌∙◌}
-use lib.ListN.{length}
-use borrow.Author.Rules.{rules}
-use Rattle.lines.specs.Lines.{next_lf}
-use Rattle.lines.proofs.Search.{found, passed, ended}
+-- `lines::next_lf` meets its contract: what `memchr` finds behind the place is what the search finds.
+use mathlib.Core.Path.{refl, sym}
+use Rattle.lines.proofs.Search.{found_by_memchr, none_behind}
 use Rattle.lines.proofs.next_lf.Goals as goal
 
-pub loop-i-init : goal.loop-i-init
-loop-i-init c = c.behind_clear_blocks-i.ensures
+pub returns-then-bytes-from : goal.returns-then-bytes-from
+returns-then-bytes-from c = sym (none_behind _ _ c.if-bytes-from.true)
 
-pub returns-then-bytes-i-eq10 : goal.returns-then-bytes-i-eq10
-returns-then-bytes-i-eq10 c = sym (found _ _ c.loop-i-test.true c.if-bytes-i-eq10.true) ∙ c.loop-i.invariant
-
-pub loop-i-preserved : goal.loop-i-preserved
-loop-i-preserved c = sym (passed _ _ c.loop-i-test.true c.if-bytes-i-eq10.false) ∙ c.loop-i.invariant
+pub returns-in_err-place : goal.returns-in_err-place
+returns-in_err-place c = rw (c.from_residual.ensures, found_by_memchr _ _ _ c.memchr.ensures, c.in_err-place.was) refl
 
 pub returns : goal.returns
-returns c = sym (ended _ c.loop-i.i c.loop-i-test.false) ∙ c.loop-i.invariant
+returns c = rw (found_by_memchr _ _ _ c.memchr.ensures, c.in_ok-place.was) refl

@@ -1,10 +1,10 @@
--- `card_cases::streamed::in_two` meets its contract, by the law of chunks.
-use mathlib.Core.Path.{◌∙◌}
-use Rattle.card_cases.proofs.Chunks.{in_two}
+-- `card_cases::streamed::in_two` meets its contract: the stream has taken all of the file.
+use Rattle.std.proofs.Common.{ap, ◌∙◌, rules}
+use Rattle.card_stream.specs.Stream.{taken_of, answer_of}
+use Rattle.card_cases.proofs.Chunks.{taken_on, answered}
 use Rattle.card_cases.proofs.streamed.in_two.Goals as goal
 
 pub returns : goal.returns
 returns c =
-    let a = c.args in
-    c.finished.ensures ∙
-    rw (c.take-first.ensures, c.«open».ensures) (in_two a.edition a.file.now a.place)
+    let whole = c.in_two-stream.ensures taken_of (record { says = λ s chunk r said. search rules; joins = taken_on }) in
+    c.answer.ensures ∙ ap answer_of c.end.ensures ∙ answered _ _ c.«open».ensures whole

@@ -52,7 +52,7 @@ loop-number-preserved c =
       search rules,
       simp length-set l.invariant.1,
       omega arith,
-      one_more l.numbers rest l.number c.value.result c.loop-number-test.true ∙
+      one_more l.numbers rest l.number c.value.result (omega (arith, taken, l.invariant.1)) ∙
           ap (λ (t : List ℕ). take l.number l.numbers ++ t) (ap (λ (v : ℕ). v ∷ rest) c.value.ensures ∙ sym next) ∙ l.invariant.3,
     )
 
@@ -61,5 +61,5 @@ unfolding from_places
 returns c =
     let l = c.loop-number in
     let done = none_left (length c.args.numbers.now) l.number (omega (arith, l.invariant.1, c.loop-number-test.false)) in
-    sym (append-nil _ ∙ take_all l.number l.numbers c.loop-number-test.false) ∙
+    sym (append-nil _ ∙ take_all l.number l.numbers (omega (arith, l.invariant.1, c.loop-number-test.false))) ∙
     sym (ap (λ (ps : List Place). take l.number l.numbers ++ from_places ps (drop l.at c.args.bytes.now)) done) ∙ l.invariant.3

@@ -1,46 +1,15 @@
--- `payroll_file::file::check` meets its contract. The invariant: the state, run over the bytes from `at` on, gives the answer of the whole file.
--- The measure is what is left of the length.
-use mathlib.Core.Path.{sym, ◌∙◌, ap}
-use native.Mathlib.Omega.{arith}
-use borrow.Author.Rules.{rules}
+-- `payroll_file::file::check` meets its contract: the lines are taken one after the other, and the rest is what is left.
+use Prim.Native.Nat.{ℕ}
+use mathlib.Core.Path.{◌∙◌, ap, ap₂}
+use mathlib.Core.List.{List, foldl}
 use Rattle.lines.specs.Lines.{cut}
-use Rattle.lines.proofs.Cuts.{at_inside}
-use Rattle.payroll_file.specs.PayrollFile.{ran_of}
-use Rattle.payroll_file.proofs.Steps.{line_taken, bytes_left, nothing_left}
+use Rattle.payroll_run.specs.declared.running.Running.{Running}
+use Rattle.payroll_file.specs.PayrollFile.{line_of, end_of}
+use Rattle.payroll_file.proofs.Steps.{as_fold}
 use Rattle.payroll_file.proofs.file.check.Goals as goal
-
-pub loop-at-init : goal.loop-at-init
-loop-at-init c = (search rules, ap (λ st. ran_of st (cut c.args.file.now)) c.open-state.ensures)
-
-pub returns-in_default : goal.returns-in_default
-returns-in_default c =
-    let l = c.loop-at in
-    let nowhere = sym c.next_lf.ensures ∙ c.in_default.is in
-    c.answer_with_rest.ensures ∙ bytes_left l.state l.at _ nowhere ∙ l.invariant.1
-
-pub slice_bounds-take_line-start : goal.slice_bounds-take_line-start
-slice_bounds-take_line-start c = (at_inside _ _ _ (sym c.next_lf.ensures ∙ c.in-At.is)).0
-
-pub slice_bounds-take_line-end : goal.slice_bounds-take_line-end
-slice_bounds-take_line-end c = omega (arith, (at_inside _ _ _ (sym c.next_lf.ensures ∙ c.in-At.is)).1)
-
-pub slice_bounds-take_line-count : goal.slice_bounds-take_line-count
-slice_bounds-take_line-count c = (at_inside _ _ _ (sym c.next_lf.ensures ∙ c.in-At.is)).0
-
-pub overflow_add-at : goal.overflow_add-at
-overflow_add-at c = omega (arith, (at_inside _ _ _ (sym c.next_lf.ensures ∙ c.in-At.is)).1)
-
-pub loop-at-smaller : goal.loop-at-smaller
-loop-at-smaller c = omega (arith, at_inside _ _ _ (sym c.next_lf.ensures ∙ c.in-At.is))
-
-pub loop-at-preserved : goal.loop-at-preserved
-loop-at-preserved c =
-    let l = c.loop-at in
-    let found = sym c.next_lf.ensures ∙ c.in-At.is in
-    (omega (arith, (at_inside _ _ _ found).1), line_taken l.state l.at _ _ found c.take_line-state.ensures ∙ l.invariant.1)
 
 pub returns : goal.returns
 returns c =
-    let l = c.loop-at in
-    let file = c.args.file.now in
-    c.answer_with_rest-2.ensures ∙ nothing_left l.state l.at file c.loop-at-test.false ∙ l.invariant.1
+    let pieces = (cut c.args.file.now).pieces in
+    let state = c.take_pieces.ensures.taken line_of (λ st piece next e. e) ∙ ap (λ (st : Running). foldl line_of st pieces) c.«open».ensures ∙ as_fold _ pieces in
+    c.answer_with_rest.ensures ∙ ap₂ (λ (st : Running) (rest : List ℕ). end_of st rest) state c.take_pieces.ensures.left

@@ -1,26 +1,14 @@
--- `payroll_program::outcome::outcome_at` meets its contract: each arm's equation picks the case of `outcome_at`.
-use mathlib.Core.Path.{sym, ◌∙◌, ap}
-use Rattle.payroll_stream.specs.Stream.{answer_of}
-use Rattle.payroll_program.specs.Outcome.{is_decided, outcome_of, outcome_at}
+-- `payroll_program::outcome::outcome_at` meets its contract: what comes of the file is what its stream's end answers.
+use mathlib.Core.Path.{◌∙◌, ap}
+use borrow.Author.Rules.{rules}
+use Rattle.payroll_program.specs.Outcome.{outcome_of}
+use Rattle.payroll_program.proofs.Ended.{answered, at_end_answered}
 use Rattle.payroll_program.proofs.outcome.outcome_at.Goals as goal
 
-pub returns-then-is_decided : goal.returns-then-is_decided
-unfolding outcome_at
-returns-then-is_decided c =
-    let decided = sym (c.is_decided.ensures ∙ ap is_decided c.answer-in-Bytes.ensures) ∙ c.if-is_decided.true in
-    rw (c.in-Bytes.is, decided) (c.outcome_of-then-is_decided.ensures ∙ ap outcome_of (c.answer-then-is_decided.ensures ∙ ap answer_of c.end-then-is_decided.ensures))
+pub returns-in_err-ended : goal.returns-in_err-ended
+returns-in_err-ended c =
+    let told = ap answered c.in_err-ended.ensures ∙ at_end_answered c.args.got c.args.stream in
+    search rules
 
-pub returns-in-End : goal.returns-in-End
-unfolding outcome_at
-returns-in-End c =
-    rw c.in-End.is (c.outcome_of.ensures ∙ ap outcome_of (c.answer.ensures ∙ ap answer_of c.end.ensures))
-
-pub returns-in-Failed : goal.returns-in-Failed
-unfolding outcome_at
-returns-in-Failed c = rw c.in-Failed.is
-
-pub returns-else-is_decided : goal.returns-else-is_decided
-unfolding outcome_at
-returns-else-is_decided c =
-    let Going-on = sym (c.is_decided.ensures ∙ ap is_decided c.answer-in-Bytes.ensures) ∙ c.if-is_decided.false in
-    rw (c.in-Bytes.is, Going-on)
+pub returns : goal.returns
+returns c = c.outcome_of.ensures ∙ ap outcome_of c.answer.ensures ∙ ap answered c.in_ok-ended.ensures ∙ at_end_answered c.args.got c.args.stream

@@ -15,9 +15,9 @@ slice_bounds-room-end c = omega (arith, width_within c.version_of.result c.width
 
 pub save_converted-requires : goal.save_converted-requires
 save_converted-requires c =
-    front_sheet _ _ _ (sym c.read-read.ensures ∙ c.in-Read.is) refl
+    front_sheet _ _ _ (sym c.read-read.ensures ∙ c.in-Ok.is) refl
     (c.width-width.ensures ∙ ap width_of (c.version_of.ensures ∙ ap version_of c.converted.ensures))
-    c.convert.ensures
+    c.convert-converted.ensures
 
 pub returns : goal.returns
-returns c = c.save_converted.ensures (_, ap converted_read (sym c.in-Read.is ∙ c.read-read.ensures))
+returns c = c.save_converted.ensures (_, ap converted_read (sym c.in-Ok.is ∙ c.read-read.ensures))

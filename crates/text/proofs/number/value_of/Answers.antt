@@ -1,50 +1,31 @@
--- `text::number::value_of` meets its contract. The invariant: the value so far is below 10^i, and with the digits still to come it is the
--- value of all. Eighteen digits leave room for each step.
-use Prim.Native.Nat.{ℕ, ◌≤◌, ◌<◌, ◌-◌, ◌^◌}
-use mathlib.Core.List.{List}
-use mathlib.Core.Path.{◌≡◌, refl, sym, ◌∙◌}
-use mathlib.Core.Bool.{true}
-use native.Mathlib.Omega.{arith}
-use borrow.Author.Rules.{rules}
-use lib.ListN.{length, get_or, drop}
+-- `text::number::value_of` meets its contract. Eighteen digits leave room for each step.
+use Rattle.std.proofs.Common.{◌∙◌, sym, arith}
 use Rattle.text.specs.declared.alphabet.Alphabet.TheVariants.{Digits}
-use Rattle.text.specs.Alphabet.{allowed, holds_only}
-use Rattle.text.specs.Number.{value_from, value_of}
 use Rattle.text.proofs.Alphabets.{at_each, digit_low, digit_high}
 use Rattle.text.proofs.Numbers.{digit_more, digits_end, below_more, room}
 use Rattle.text.proofs.number.value_of.Goals as goal
 
--- the byte at the loop's place is a digit
-is_digit : (s : List ℕ) (i : ℕ) → holds_only Digits s ≡ true → i < length s → allowed Digits (get_or s i 0) ≡ true
-is_digit s i h l = at_each Digits s h i l
-
-pub loop-i-init : goal.loop-i-init
-loop-i-init c = (search rules, search rules, refl)
-
 pub overflow_mul-value : goal.overflow_mul-value
-overflow_mul-value c = omega (arith, room c.loop-i.value c.loop-i.i (omega arith) c.loop-i.invariant.1)
+overflow_mul-value c = let l = c.loop-digit in omega (arith, room l.value l.digit-index (omega arith) l.invariant.0)
 
-pub overflow_sub-value : goal.overflow_sub-value
-overflow_sub-value c = digit_low _ (is_digit _ _ c.requires.0 c.loop-i-test.true)
-
-pub overflow_cast-value : goal.overflow_cast-value
-overflow_cast-value c = omega (arith, digit_high _ (is_digit _ _ c.requires.0 c.loop-i-test.true))
+pub overflow_sub-digit : goal.overflow_sub-digit
+overflow_sub-digit c = digit_low _ (at_each Digits _ c.requires.0 c.loop-digit.digit-index c.loop-digit-test.true)
 
 pub overflow_add-value : goal.overflow_add-value
 overflow_add-value c =
+    let l = c.loop-digit in
     omega (
       arith,
-      room c.loop-i.value c.loop-i.i (omega arith) c.loop-i.invariant.1,
-      digit_high _ (is_digit _ _ c.requires.0 c.loop-i-test.true),
+      room l.value l.digit-index (omega arith) l.invariant.0,
+      digit_high _ (at_each Digits _ c.requires.0 l.digit-index c.loop-digit-test.true),
     )
 
-pub loop-i-preserved : goal.loop-i-preserved
-loop-i-preserved c =
-    let l = c.loop-i in (
-      search rules,
-      below_more l.value l.i _ l.invariant.1 (omega (arith, digit_high _ (is_digit _ _ c.requires.0 c.loop-i-test.true))),
-      sym (digit_more _ _ _ c.loop-i-test.true) ∙ l.invariant.2,
+pub loop-digit-preserved : goal.loop-digit-preserved
+loop-digit-preserved c =
+    let l = c.loop-digit in (
+      below_more l.value l.digit-index _ l.invariant.0 (omega (arith, digit_high _ (at_each Digits _ c.requires.0 l.digit-index c.loop-digit-test.true))),
+      rw c.from.ensures (sym (digit_more _ _ _ c.loop-digit-test.true) ∙ l.invariant.1),
     )
 
 pub returns : goal.returns
-returns c = sym (digits_end _ _ c.loop-i.i c.loop-i-test.false) ∙ c.loop-i.invariant.2
+returns c = sym (digits_end _ _ c.loop-digit.digit-index c.loop-digit-test.false) ∙ c.loop-digit.invariant.1

@@ -1,12 +1,8 @@
--- `wording::put::shown` meets its contract. The invariant is that of `put::text`, for the text as it is shown.
-use Prim.Native.Nat.{◌-◌}
-use lib.ListN.{length}
+-- `wording::put::shown` meets its contract. The invariant: the bytes so far are put as they are shown.
+use lib.ListN.{take}
+use Rattle.wording.specs.Put.{Puts}
 use Rattle.wording.specs.Shown.{shown_as}
-use Rattle.wording.proofs.Putting.{Done}
 use Rattle.wording.proofs.put.shown.Given as goal
 
-abbrev pub invariant-loop-i : goal.invariant-loop-i
-invariant-loop-i l = Done (shown_as l.mark l.text) l.initial.out l.at l.out l.end l.i
-
-abbrev pub decreases-loop-i : goal.decreases-loop-i
-decreases-loop-i l = length l.text - l.i
+abbrev pub invariant-loop-byte : goal.invariant-loop-byte
+invariant-loop-byte l = Puts (shown_as l.mark (take l.byte-index l.text)) l.initial.out l.at l.end l.out

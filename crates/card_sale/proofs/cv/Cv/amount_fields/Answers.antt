@@ -1,20 +1,28 @@
--- `card_sale::cv::Cv::amount_fields` meets its contract: the fields' faults are joined in the table's order.
-use mathlib.Core.Path.{◌∙◌}
-use lib.ListN.{take, drop}
-use Rattle.card_sale.specs.Cv.{cv_table}
-use Rattle.refusal.proofs.Rows.{next}
-use Rattle.card_content.proofs.Rows.{field_by_field}
+-- `card_sale::cv::Cv::amount_fields` meets its contract: the code leaves at the first field with a fault.
+use Rattle.std.proofs.Common.{arith}
+use Rattle.card_content.proofs.Rows.{each_field}
 use Rattle.card_sale.proofs.cv.Cv.amount_fields.Goals as goal
 
+pub returns-in_err-fault-3 : goal.returns-in_err-fault-3
+returns-in_err-fault-3 c = grind (arith, each_field)
+
+pub returns-in_err-fault-4 : goal.returns-in_err-fault-4
+returns-in_err-fault-4 c = grind (arith, each_field)
+
+pub returns-in_err-fault-5 : goal.returns-in_err-fault-5
+returns-in_err-fault-5 c = grind (arith, each_field)
+
+pub returns-in_err-fault-6 : goal.returns-in_err-fault-6
+returns-in_err-fault-6 c = grind (arith, each_field)
+
+pub returns-in_err-fault-7 : goal.returns-in_err-fault-7
+returns-in_err-fault-7 c = grind (arith, each_field)
+
+pub returns-in_err-fault-8 : goal.returns-in_err-fault-8
+returns-in_err-fault-8 c = grind (arith, each_field)
+
+pub returns-in_err-fault-9 : goal.returns-in_err-fault-9
+returns-in_err-fault-9 c = grind (arith, each_field)
+
 pub returns : goal.returns
-returns c =
-    next c.earlier-9.ensures c.fault-10.ensures (
-    next c.earlier-8.ensures c.fault-9.ensures (
-    next c.earlier-7.ensures c.fault-8.ensures (
-    next c.earlier-6.ensures c.fault-7.ensures (
-    next c.earlier-5.ensures c.fault-6.ensures (
-    next c.earlier-4.ensures c.fault-5.ensures (
-    next c.earlier-3.ensures c.fault-4.ensures (
-    next c.earlier-2.ensures c.fault-3.ensures (
-    next c.earlier.ensures c.fault-2.ensures c.fault.ensures)))))))) ∙
-    field_by_field _ _ (take 10 (drop 8 cv_table))
+returns c = grind (arith, each_field)

@@ -1,5 +1,0 @@
--- `card_adjustment::aj::Aj::amounts_of` meets its contract: each number is what `number` promises of its field.
-use Rattle.card_adjustment.proofs.aj.Aj.amounts_of.Goals as goal
-
-pub returns : goal.returns
-returns c = rw (c.number.ensures, c.number-2.ensures, c.number-3.ensures)

@@ -1,5 +1,0 @@
--- `card_frame::a9::A9::read` meets its contract: each number is what `number` promises of its field.
-use Rattle.card_frame.proofs.a9.A9.read.Goals as goal
-
-pub returns : goal.returns
-returns c = rw (c.number.ensures, c.number-2.ensures)

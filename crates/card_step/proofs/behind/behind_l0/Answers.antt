@@ -1,5 +1,0 @@
--- `card_step::behind::behind_l0` meets its contract: what its callees answer is what it promises.
-use Rattle.card_step.proofs.behind.behind_l0.Goals as goal
-
-pub returns : goal.returns
-returns c = rw (c.moved.ensures, c.none.ensures, c.counted.ensures)

@@ -1,5 +1,0 @@
--- `card_step::behind::behind_l9` meets its contract: what its callees answer is what it promises.
-use Rattle.card_step.proofs.behind.behind_l9.Goals as goal
-
-pub returns : goal.returns
-returns c = rw (c.moved.ensures, c.one_batch_more.ensures, c.counted.ensures)
