@@ -39,6 +39,7 @@ fn put_piece(number: u64, piece: &[u8], out: &mut [u8], at: usize) -> usize
 }
 
 // Puts the rows of the finished lines at the start of an output, as far as there is room. The first line is the file's record of this number.
+// (`lines::take_pieces` takes a closure that may be called again and again, and such a closure writes to nothing lent.)
 pub fn put_rows(number: u64, bytes: &[u8], out: &mut [u8]) -> Rows
     ensures { PutsRows number bytes.now out.old result out.new }
 {

@@ -38,7 +38,7 @@ fn print_answer(state: Running, at: usize) {
     answer::print_card_answer(state.answer());
 }
 
-// Prints the answer after each call.
+// Prints the answer after each call. The calls stand one behind the other, each as long as its own front says.
 fn print_calls(edition: u64, calls: &[u8]) {
     let mut state = Running::open(edition);
     let mut at = 0;

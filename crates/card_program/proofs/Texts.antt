@@ -1,4 +1,4 @@
--- No verdict has more than 353 bytes, and no words in a list have more.
+-- No verdict has more than 353 bytes, and no words in a list have more; so no outcome has more than its room.
 use Prim.Native.Nat.{ℕ, ◌+◌, ◌*◌, ◌≤◌}
 use mathlib.Core.List.{List}
 use native.Mathlib.Omega.{arith}
@@ -7,6 +7,7 @@ use lib.ListN.{length, length-append}
 use Rattle.std.specs.Prelude.{None, Some, Ok, Err}
 use Rattle.text.specs.Literal.{ascii}
 use Rattle.wording.proofs.Lengths.{line_short, refused_short}
+use Rattle.program.proofs.Sentences.{sentence_short}
 use Rattle.totals.specs.declared.amounts.Totals.{Totals}
 use Rattle.totals.specs.declared.two_sets.TwoSets.{TwoSets}
 use Rattle.card_run.specs.declared.answer.Accepted.{Accepted as Numbers}
@@ -15,7 +16,7 @@ use Rattle.card_program.specs.declared.verdict.Lines.{Lines}
 use Rattle.card_program.specs.declared.verdict.Lines.TheVariants.{Sales, Adjustments}
 use Rattle.card_program.specs.Outcome.{Outcome}
 use Rattle.card_program.specs.Listing.{words_of}
-use Rattle.card_program.specs.Verdict.{led_line, totals_text, sets_text, accepted_text, adjusted_text, verdict_text}
+use Rattle.card_program.specs.Verdict.{led_line, totals_text, sets_text, accepted_text, adjusted_text, verdict_text, outcome_text}
 
 pub totals_short : (word : List ℕ) (t : Totals) → length (totals_text word t) ≤ 4 * length word + 109
 unfolding led_line totals_text
@@ -62,3 +63,7 @@ words_short (Ok None) = lit≤ tt
 words_short (Ok (Some (Ok numbers))) = accepted_short numbers
 words_short (Ok (Some (Err refusal))) = omega (arith, refused_short refusal)
 words_short (Err mistake) = lit≤ tt
+
+pub outcome_short : (lines : Lines) (outcome : Outcome) → length (outcome_text lines outcome) ≤ 384
+outcome_short lines (Ok answer) = omega (arith, verdict_short lines answer)
+outcome_short lines (Err mistake) = omega (arith, sentence_short mistake)

@@ -29,3 +29,4 @@ pub mod MaskTwice
 pub mod LentBuffers
 pub mod DaySheets
 pub mod HiddenDigitsExample
+pub mod StepByStep

@@ -48,7 +48,7 @@ fn read_more<R: Read>(reader: &mut R, buffer: &mut [u8], done: usize) -> Got
     read_some(reader, &mut buffer[done..])
 }
 
-// Reads until the end, an error, or the end of the buffer.
+// Reads until the end, an error, or the end of the buffer. (The library's `read_to_end` takes a `Vec` that grows with the file; here the caller's room is all.)
 pub fn read_all<R: Read>(reader: &mut R, buffer: &mut [u8]) -> Loaded
     ensures { LoadedWithin (length buffer.new) result }
 {

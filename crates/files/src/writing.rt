@@ -14,15 +14,7 @@ pub enum Standard {
 
 // Writes all of some bytes, or gives the number of the error of the first write that failed: 0 for one that took nothing.
 pub fn write_all<W: Write>(writer: &mut W, bytes: &[u8]) -> Result<(), u64> {
-    let mut rest = bytes;
-    while !rest.is_empty() {
-        match writer.write(rest) {
-            Err(error) => return Err(error::number(&error)),
-            Ok(0) => return Err(0),
-            Ok(size) => rest = &rest[size..],
-        }
-    }
-    Ok(())
+    error::numbered(writer.write_all(bytes))
 }
 
 // A descriptor says which: 2 is standard error, and any other number standard output.

@@ -65,7 +65,7 @@ fn heading_in(numbers: &[u8]) -> Heading
     }
 }
 
-// The totals whose four numbers begin with this one.
+// The totals whose four numbers begin with this one. (Numbers as bytes of a case; `day_sheet::row::totals_from` takes them from a row.)
 #[tactic(auto, unfolding(crate::specs::Numbers::totals_from))]
 fn totals_from(numbers: &[u8], first: u64) -> Totals
     requires { first ≤ 9 }

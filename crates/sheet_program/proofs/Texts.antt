@@ -1,4 +1,4 @@
--- No text of a sheet has more than 430 bytes.
+-- No text of a sheet has more than 430 bytes, and so no outcome more than its room.
 use Prim.Native.Nat.{ℕ, ◌+◌, ◌≤◌}
 use mathlib.Core.Path.{◌≡◌}
 use mathlib.Core.List.{List, []}
@@ -7,6 +7,7 @@ use lib.ListN.{length, length-append}
 use Rattle.std.specs.Prelude.{Ok, Err}
 use Rattle.text.specs.Literal.{ascii}
 use Rattle.wording.proofs.Lengths.{line_short, refused_short}
+use Rattle.program.proofs.Sentences.{sentence_short}
 use Rattle.totals.specs.declared.amounts.Totals.{Totals}
 use Rattle.totals.specs.declared.two_sets.TwoSets.{TwoSets}
 use Rattle.sheet_numbers.specs.declared.sheet.Heading.{Heading}
@@ -14,7 +15,8 @@ use Rattle.sheet_numbers.specs.declared.sheet.Sheet.TheVariants.{Version1, Versi
 use Rattle.day_sheet.specs.Reading.{SheetRead}
 use Rattle.day_sheet.proofs.Filling.{length_digits}
 use Rattle.card_program.proofs.Texts.{totals_short, sets_short}
-use Rattle.sheet_program.specs.Verdict.{digits_line, heading_text, version1_text, version2_text, read_text}
+use Rattle.sheet_program.specs.SheetRead.{SheetOutcome}
+use Rattle.sheet_program.specs.Verdict.{digits_line, heading_text, version1_text, version2_text, read_text, outcome_text}
 
 length_line : (name : List ℕ) (width n : ℕ) → length (digits_line name width n) ≡ length name + width + 1
 unfolding digits_line
@@ -45,3 +47,7 @@ pub read_short : (read : SheetRead) → length (read_text read) ≤ 430
 read_short (Ok (Version1 heading totals)) = omega (arith, version1_short heading totals)
 read_short (Ok (Version2 heading split sets)) = version2_short heading split sets
 read_short (Err refusal) = omega (arith, refused_short refusal)
+
+pub outcome_short : (outcome : SheetOutcome) → length (outcome_text outcome) ≤ 448
+outcome_short (Ok read) = omega (arith, read_short read)
+outcome_short (Err mistake) = omega (arith, sentence_short mistake)

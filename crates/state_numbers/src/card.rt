@@ -15,7 +15,7 @@ use totals::two_sets::TwoSets;
 // How many numbers a state is.
 pub const STATE_NUMBERS: usize = 24;
 
-// A stage's number, and its refusal's.
+// A stage's number, and its refusal's. (The stages of a payroll file are others, with numbers of their own.)
 fn stage_numbers(stage: Stage) -> [u64; 4]
     ensures { result ≡ stage_number stage ∷ refusal_as_list (stage_refusal stage) }
 {

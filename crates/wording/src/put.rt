@@ -1,4 +1,5 @@
-// A text, or a number, put into a buffer behind what stands there already.
+// A text, or a number, put into a buffer behind what stands there already. Buffer and place are two parameters, and no writer: `Puts`, which `answers` holds
+// of every text of a program, says what the buffer was, where, and what it is.
 ghost use Rattle.std.specs.Prelude.{◌≡◌};
 ghost use Rattle.wording.specs.Put.{Puts};
 ghost use Rattle.wording.specs.Number.{decimal_of};
