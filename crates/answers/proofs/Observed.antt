@@ -21,8 +21,7 @@ use Rattle.payroll_record.specs.declared.kind.Kind.TheVariants.{FileHeader, Batc
 use Rattle.payroll_record.specs.declared.reading.Reading.{Reading as PayrollReading}
 use Rattle.payroll_record.specs.declared.reading.Reading.TheVariants.{
   WrongWidth as wrong_width,
-  UnknownKind as unknown_kind,
-  UnknownSegment as unknown_segment,
+  Unknown as of_no_kind,
   FileHeader as file_header,
   BatchHeader as batch_header,
   Detail as detail,
@@ -183,8 +182,8 @@ payroll_kind_read (Ok kind) = payroll_kind_number kind
 
 abbrev pub payroll_reading_read : PayrollReading → ℕ
 payroll_reading_read wrong_width = 6
-payroll_reading_read unknown_kind = 8
-payroll_reading_read unknown_segment = 14
+payroll_reading_read (of_no_kind UnknownKind) = 8
+payroll_reading_read (of_no_kind UnknownSegment) = 14
 payroll_reading_read (file_header r) = 0
 payroll_reading_read (batch_header r) = 0
 payroll_reading_read (detail r) = 0

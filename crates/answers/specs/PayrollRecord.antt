@@ -12,8 +12,7 @@ use Rattle.payroll_record.specs.declared.batch_trailer.BatchTrailer.{BatchTraile
 use Rattle.payroll_record.specs.declared.file_trailer.FileTrailer.{FileTrailer as FileTrailerRead}
 use Rattle.payroll_record.specs.declared.reading.Reading.TheVariants.{
   WrongWidth as wrong_width,
-  UnknownKind as unknown_kind,
-  UnknownSegment as unknown_segment,
+  Unknown as unknown,
   Detail as detail_read,
 }
 use Rattle.answers.specs.Samples.{at, file_header, batch_header, payment, batch_trailer, file_trailer}
@@ -167,6 +166,6 @@ pub record PayrollRecord (κ : Lft) : Type 0 where
   pub file_trailer_batch : Tells (FileTrailerReadSays (one κ)) (lent (at 4 "0001" file_trailer), tt) (file_trailer_of (fault_at ValueNotAllowed 4) (Ok 1) (Ok 5)) (file_trailer_of nothing (Ok 1) (Ok 5))
   -- `read`: 4 before 6; a longer record taken; an unknown segment taken for a payment
   pub read : OneAnswer ReadSays
-  pub read_order : Tells (ReadSays (one κ)) (lent (ascii "42200012"), tt) wrong_width unknown_kind
+  pub read_order : Tells (ReadSays (one κ)) (lent (ascii "42200012"), tt) wrong_width (unknown UnknownKind)
   pub read_longer : Tells (ReadSays (one κ)) (lent (at 241 " " payment), tt) wrong_width (detail_read (detail_of SegmentA nothing 10000))
-  pub read_segment : Tells (ReadSays (one κ)) (lent (at 14 "C" payment), tt) unknown_segment (detail_read (detail_of SegmentA nothing 10000))
+  pub read_segment : Tells (ReadSays (one κ)) (lent (at 14 "C" payment), tt) (unknown UnknownSegment) (detail_read (detail_of SegmentA nothing 10000))

@@ -12,9 +12,9 @@ use answer_rows::sheet::{SHEET_NUMBERS, WRITTEN_NUMBERS, sheet_row, written_row}
 use day_sheet::layout::{PLACES, Version};
 
 // How many numbers a sheet of each version has behind its version.
-const NUMBERS_1: usize = 8;
+pub const NUMBERS_1: usize = 8;
 
-const NUMBERS_2: usize = 13;
+pub const NUMBERS_2: usize = 13;
 
 // The row of a day sheet of either version.
 #[unsafe(no_mangle)]

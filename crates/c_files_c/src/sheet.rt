@@ -9,11 +9,7 @@ ghost use Rattle.answer_rows.specs.Sheet.{sheet_numbers, written_numbers};
 ghost use Rattle.c_files.specs.Told.{Told};
 
 use answer_rows::sheet::{SHEET_NUMBERS, WRITTEN_NUMBERS};
-
-// How many numbers a sheet of each version has behind its version.
-const NUMBERS_1: usize = 8;
-
-const NUMBERS_2: usize = 13;
+use c_files::sheet::{NUMBERS_1, NUMBERS_2};
 
 // The row of a day sheet of either version.
 #[unsafe(no_mangle)]

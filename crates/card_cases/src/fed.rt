@@ -5,9 +5,10 @@ ghost use Rattle.card_cases.specs.Call.{called_of};
 use card_run::running::Running;
 use cases::cursor::{LENGTH_BYTES, Number};
 use cases::layout::EDITION_AND_PART;
+use cases::source::Source;
 use cases::{answer, cursor, print};
 
-// The length that stands for a close.
+// The length that stands for a close: a number, as the stored cases have it.
 const CLOSE: u64 = 4294967295;
 
 // The state after a call: a close, or a record of this length.
@@ -38,7 +39,7 @@ fn print_answer(state: Running, at: usize) {
     answer::print_card_answer(state.answer());
 }
 
-// Prints the answer after each call. The calls stand one behind the other, each as long as its own front says.
+// Prints the answer after each call. The calls stand one behind the other, each as long as its own front says: no iterator of the library goes so.
 fn print_calls(edition: u64, calls: &[u8]) {
     let mut state = Running::open(edition);
     let mut at = 0;
@@ -59,12 +60,11 @@ fn print_file(rt: &HostRuntime, path: &[u8]) {
     });
 }
 
-pub fn print_outside(rt: &HostRuntime) {
-    print::text(b"outside, record by record\n");
-    print_file(rt, b"outside_fed.cases");
-}
-
-pub fn print_own(rt: &HostRuntime) {
-    print::text(b"own, record by record\n");
-    print_file(rt, b"own_fed.cases");
+// Prints the title and the lines of a source.
+pub fn print(rt: &HostRuntime, source: Source) {
+    source.print_title(b", record by record");
+    match source {
+        Source::Outside => print_file(rt, b"outside_fed.cases"),
+        Source::Own => print_file(rt, b"own_fed.cases"),
+    }
 }

@@ -1,6 +1,7 @@
 // The field question: what is handed back of each case, a line each.
 use cases::hash::hash;
 use cases::layout::Layout;
+use cases::source::Source;
 use cases::{answer, print};
 use refusal::Refusal;
 
@@ -40,12 +41,11 @@ fn print_file(rt: &HostRuntime, path: &[u8]) {
     FIELDS.print_file(rt, path, |[number, _], record| print_field(record, number));
 }
 
-pub fn print_outside(rt: &HostRuntime) {
-    print::text(b"outside, fields\n");
-    print_file(rt, b"outside_fields.cases");
-}
-
-pub fn print_own(rt: &HostRuntime) {
-    print::text(b"own, fields\n");
-    print_file(rt, b"own_fields.cases");
+// Prints the title and the lines of a source.
+pub fn print(rt: &HostRuntime, source: Source) {
+    source.print_title(b", fields");
+    match source {
+        Source::Outside => print_file(rt, b"outside_fields.cases"),
+        Source::Own => print_file(rt, b"own_fields.cases"),
+    }
 }

@@ -56,9 +56,9 @@ fn main(rt: HostRuntime) {
         EDITION_AND_PART,
         |[edition, _], file| print_cuts(edition, file),
     );
-    fed::print_outside(&rt);
-    fed::print_own(&rt);
+    fed::print(&rt, Source::Outside);
+    fed::print(&rt, Source::Own);
     limits::print_all(&rt);
-    fields::print_outside(&rt);
-    fields::print_own(&rt);
+    fields::print(&rt, Source::Outside);
+    fields::print(&rt, Source::Own);
 }

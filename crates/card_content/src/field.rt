@@ -9,7 +9,7 @@ use crate::content::{self, Content};
 use refusal::{Cause, Fault};
 use text::number;
 
-// The first and the last position, from 1, as the tables print them, and the content.
+// The first and the last position, from 1, as the tables print them, and the content. (`payroll_record` has a field without, and says why.)
 #[derive(Clone, Copy)]
 pub struct Field(pub usize, pub usize, pub Content);
 

@@ -4,7 +4,7 @@ ghost use Rattle.card_copy.specs.Copying.{Filled};
 ghost use Rattle.card_program.specs.Checked.{Checked};
 ghost use Rattle.card_program.specs.Outcome.{is_accepted};
 
-use crate::copy;
+use crate::copy::Copying;
 use crate::output::Output;
 use card_program::outcome;
 use card_program::outcome::Outcome;
@@ -43,53 +43,56 @@ fn finish(rt: &HostRuntime, outcome: Outcome, draft: Draft, out: &[u8]) -> Outco
     outcome
 }
 
-// Begins the copy of a file of which the first bytes are in the buffer, and fills it.
-fn copy_into<R: Read>(
-    rt: &HostRuntime,
-    output: Output,
-    edition: u64,
-    reader: &mut R,
-    out: &[u8],
-    buffer: &mut [u8],
-    first: usize,
-) -> Outcome
-    requires { Filled buffer.old first }
-    ensures { Checked edition result }
-{
-    let draft = draft::begin(rt, out);
-    let Step::Write = draft.step else {
-        return Err(Mistake::System(Failed::Write, draft.error));
-    };
-    let outcome = copy::copy_all(output, edition, reader, &draft, buffer, first);
-    finish(rt, outcome, draft, out)
-}
+impl Copying {
+    // Begins the copy of a file of which the first bytes are in the buffer, and fills it.
+    fn copy_into<R: Read>(
+        self,
+        rt: &HostRuntime,
+        reader: &mut R,
+        out: &[u8],
+        buffer: &mut [u8],
+        first: usize,
+    ) -> Outcome
+        requires { Filled buffer.old first }
+        ensures { Checked self.edition result }
+    {
+        let draft = draft::begin(rt, out);
+        let Step::Write = draft.step else {
+            return Err(Mistake::System(Failed::Write, draft.error));
+        };
+        let outcome = self.copy_all(reader, &draft, buffer, first);
+        finish(rt, outcome, draft, out)
+    }
 
-// Copies what a reader gives into the file of this name, which is begun only once there is something to copy.
-fn copy_from<R: Read>(
-    rt: &HostRuntime,
-    output: Output,
-    edition: u64,
-    reader: &mut R,
-    out: &[u8],
-    buffer: &mut [u8],
-) -> Outcome
-    requires { Filled buffer.old 0 }
-    ensures { Checked edition result }
-{
-    let got = reading::read_some(reader, buffer);
-    let Ok(Some(first)) = got else {
-        return outcome::outcome_at(got, Stream::open(edition));
-    };
-    copy_into(rt, output, edition, reader, out, buffer, first)
-}
+    // Copies what a reader gives into the file of this name, which is begun only once there is something to copy.
+    fn copy_from<R: Read>(
+        self,
+        rt: &HostRuntime,
+        reader: &mut R,
+        out: &[u8],
+        buffer: &mut [u8],
+    ) -> Outcome
+        requires { Filled buffer.old 0 }
+        ensures { Checked self.edition result }
+    {
+        let got = reading::read_some(reader, buffer);
+        let Ok(Some(first)) = got else {
+            return outcome::outcome_at(got, Stream::open(self.edition));
+        };
+        self.copy_into(rt, reader, out, buffer, first)
+    }
 
-// Copies the file of a name, 65,536 bytes at a time, with the line that the chunk before left unfinished.
-fn copy_file(rt: &HostRuntime, output: Output, edition: u64, file: &[u8], out: &[u8]) -> Outcome
-    ensures { Checked edition result }
-{
-    let mut opened = opening::open(rt, file).map_err(|error| Mistake::System(Failed::Open, error))?;
-    let mut buffer = io::large_buffer();
-    copy_from(rt, output, edition, &mut opened, out, &mut buffer)
+    // Copies the file of a name, 65,536 bytes at a time, with the line that the chunk before left unfinished.
+    fn copy_file(self, rt: &HostRuntime, file: &[u8], out: &[u8]) -> Outcome
+        ensures { Checked self.edition result }
+    {
+        let mut opened = opening::open(rt, file).map_err(|error| Mistake::System(
+            Failed::Open,
+            error,
+        ))?;
+        let mut buffer = io::large_buffer();
+        self.copy_from(rt, &mut opened, out, &mut buffer)
+    }
 }
 
 // Writes what is made of an accepted file. Of any other there is no copy, and what was at `out` is still there.
@@ -103,7 +106,8 @@ pub(crate) fn copy(
     ensures { Checked edition result }
 {
     if place::is_free(rt, out) {
-        return copy_file(rt, output, edition, file, out);
+        let copying = Copying { output, edition };
+        return copying.copy_file(rt, file, out);
     }
     Err(Mistake::OutNoFile)
 }

@@ -1,4 +1,5 @@
 -- What is promised of an outcome: an answer is that of reading some bytes whole. That they are the file's is the system call's affair, and no contract can say it.
+-- It is said of outcome and edition together, and so of no type alone.
 use Rattle.std.specs.Prelude.{ℕ, ◌≡◌, List, Option, None, Some, Ok, Err}
 use Rattle.card_file.specs.CardFile.{check_of}
 use Rattle.program.specs.declared.mistake.Mistake.TheVariants.{EditionNoNumber}

@@ -1,4 +1,4 @@
-// A card file, read in chunks.
+// A card file, read in chunks: lines over `program::stream`, which reads a file of either kind. What may not change is that each is asked by its name.
 ghost use Rattle.card_program.specs.Checked.{Checked};
 
 use crate::outcome;

@@ -12,7 +12,7 @@ use program::stream::Judge;
 
 pub type Outcome = Result<CardAnswer, Mistake>;
 
-// Whether no further byte can change an answer.
+// Whether no further byte can change an answer. (What may not change is that this and `outcome_at` are asked by their names.)
 pub fn is_decided(answer: CardAnswer) -> bool
     ensures { result ≡ is_decided answer }
 {

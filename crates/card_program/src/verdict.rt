@@ -111,7 +111,7 @@ impl Teller for Lines {
     }
 }
 
-// The verdict, or the mistake's sentence.
+// The verdict, or the mistake's sentence. (This and the two below are lines over what the programs share: what may not change is that each is asked by its name.)
 pub fn put_outcome(lines: Lines, outcome: Outcome, out: &mut [u8], at: usize) -> usize
     ensures { Puts (outcome_text lines outcome) out.old at result out.new }
 {

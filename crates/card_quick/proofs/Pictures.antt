@@ -1,13 +1,12 @@
 -- Laws of rows of bytes compared place by place: what one place does, that rows pass where their parts do, and that a row between two others
 -- holds only what an alphabet allows between the least and the greatest of these.
-use Prim.Native.Nat.{ℕ, zero, suc, ◌+◌, ◌≤◌, ◌<◌}
+use Prim.Native.Nat.{ℕ, zero, suc, ◌≤◌, ◌<◌}
 use mathlib.Core.Path.{◌≡◌, refl, sym, ◌∙◌, ap, ap₂}
 use mathlib.Core.List.{List, [], ◌∷◌}
 use mathlib.Core.Bool.{Bool, true, false, ◌&&◌, and_assoc}
-use native.Mathlib.Numerals.{add-one}
 use native.Mathlib.Omega.{arith}
-use lib.ListN.{length, get_or, take, drop, drop_of_length-le}
-use lib.Seq.{drop-cons, drop-nil, slice, take-take}
+use lib.ListN.{length, take, drop}
+use lib.Seq.{drop-nil, slice, take-take}
 use lib.Dec.{leb}
 use borrow.Author.Tests.{le-leb, lt-leb, leb-true}
 use Rattle.text.specs.declared.alphabet.Alphabet.{Alphabet}
@@ -17,23 +16,30 @@ use Rattle.card_content.specs.EqualOutside.{EqualOutside}
 use Rattle.card_quick.specs.Quick.{none_above}
 
 -- a byte above its neighbour: the rows from there on do not pass, whatever those before it are
-pub above : (p : Bool) (a b : List ℕ) (i : ℕ) → i < length a → i < length b → get_or b i 0 < get_or a i 0 →
-    p && none_above (drop i a) (drop i b) ≡ false
+pub above : (p : Bool) (x y : ℕ) (a b low high : List ℕ) → low ≡ x ∷ a → high ≡ y ∷ b → y < x → p && none_above low high ≡ false
 unfolding none_above
-above true a b i h k l = rw (drop-cons a i 0 h, drop-cons b i 0 k, lt-leb _ _ l)
-above false a b i h k l = refl
+above true x y a b low high e f l = rw (e, f, lt-leb _ _ l)
+above false x y a b low high e f l = refl
 
 -- any other: they pass where those behind it do
-pub not_above : (p : Bool) (a b : List ℕ) (i : ℕ) → i < length a → i < length b → get_or a i 0 ≤ get_or b i 0 →
-    p && none_above (drop i a) (drop i b) ≡ p && none_above (drop (i + 1) a) (drop (i + 1) b)
+pub not_above : (p : Bool) (x y : ℕ) (a b low high : List ℕ) → low ≡ x ∷ a → high ≡ y ∷ b → x ≤ y → p && none_above low high ≡ p && none_above a b
 unfolding none_above
-not_above p a b i h k l = rw (drop-cons a i 0 h, drop-cons b i 0 k, add-one, le-leb _ _ l)
+not_above p x y a b low high e f l = rw (e, f, le-leb _ _ l)
 
--- no byte left
-pub rows_end : (p : Bool) (a b : List ℕ) (i : ℕ) → length a ≤ i → p && none_above (drop i a) (drop i b) ≡ p
+-- no byte left in the one row
+pub low_end : (p : Bool) (low high : List ℕ) → length low ≡ 0 → p && none_above low high ≡ p
 unfolding none_above
-rows_end true a b i h = rw (drop_of_length-le a h)
-rows_end false a b i h = refl
+low_end true [] high e = refl
+low_end false low high e = refl
+low_end true (x ∷ low) high e = absurd (omega arith)
+
+-- no byte left in the other
+pub high_end : (p : Bool) (low high : List ℕ) → length high ≡ 0 → p && none_above low high ≡ p
+unfolding none_above
+high_end true [] high e = refl
+high_end true (x ∷ low) [] e = refl
+high_end true (x ∷ low) (y ∷ high) e = absurd (omega arith)
+high_end false low high e = refl
 
 -- no byte against what comes
 none_beyond : (a : List ℕ) → none_above a [] ≡ true

@@ -28,14 +28,14 @@ use totals::amounts::Amounts;
 
 // Whether no byte of one row is above its neighbour in the other. There is no way out before the end, so that the machine can look at many
 // bytes at once.
-#[tactic(auto, using(crate::proofs::Pictures::above, crate::proofs::Pictures::not_above, crate::proofs::Pictures::rows_end))]
+#[tactic(auto, using(crate::proofs::Pictures::above, crate::proofs::Pictures::not_above))]
 fn none_above(low: &[u8], high: &[u8]) -> bool
     requires { length low.now ≡ length high.now }
     ensures { result ≡ none_above low.now high.now }
 {
     let mut none = true;
-    for (i, &byte) in low.iter().enumerate() {
-        if high[i] < byte {
+    for (&low, &high) in low.iter().zip(high) {
+        if high < low {
             none = false;
         }
     }

@@ -53,13 +53,15 @@ bank_table =
 abbrev pub cv_table : List Field
 cv_table = sale_table ++ (amount_table ++ bank_table)
 
+-- the amounts in three fields
+abbrev pub amounts_in : Field → Field → Field → List ℕ → Amounts
+amounts_in gross discount net r = record { gross = number_in gross r; discount = number_in discount r; net = number_in net r }
+
 abbrev pub sale_amounts : List ℕ → Amounts
-sale_amounts r =
-    record { gross = number_in (field 55 65 Digits) r; discount = number_in (field 66 76 Digits) r; net = number_in (field 77 87 Digits) r }
+sale_amounts = amounts_in (field 55 65 Digits) (field 66 76 Digits) (field 77 87 Digits)
 
 abbrev pub instalment_amounts : List ℕ → Amounts
-instalment_amounts r =
-    record { gross = number_in (field 123 133 Digits) r; discount = number_in (field 134 144 Digits) r; net = number_in (field 145 155 Digits) r }
+instalment_amounts = amounts_in (field 123 133 Digits) (field 134 144 Digits) (field 145 155 Digits)
 
 abbrev pub cv_of : List ℕ → Cv
 cv_of r =

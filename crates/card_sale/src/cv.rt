@@ -7,8 +7,7 @@ ghost use Rattle.card_sale.specs.Cv.{
   amount_table,
   bank_table,
   cv_table,
-  sale_amounts,
-  instalment_amounts,
+  amounts_in,
   cv_of,
   is_forecast,
   has_instalment,
@@ -144,25 +143,14 @@ impl Cv {
         Cv::bank_fields(edition, bytes)
     }
 
-    // The amounts of the sale.
-    fn sale_amounts(bytes: &[u8]) -> Amounts
-        ensures { result ≡ sale_amounts bytes.now }
+    // The amounts in three fields.
+    fn amounts_in(gross: Field, discount: Field, net: Field, bytes: &[u8]) -> Amounts
+        ensures { result ≡ amounts_in gross discount net bytes.now }
     {
         Amounts {
-            gross: Cv::SALE_GROSS.number(bytes),
-            discount: Cv::SALE_DISCOUNT.number(bytes),
-            net: Cv::SALE_NET.number(bytes),
-        }
-    }
-
-    // The amounts of the instalment.
-    fn instalment_amounts_of(bytes: &[u8]) -> Amounts
-        ensures { result ≡ instalment_amounts bytes.now }
-    {
-        Amounts {
-            gross: Cv::INSTALMENT_GROSS.number(bytes),
-            discount: Cv::INSTALMENT_DISCOUNT.number(bytes),
-            net: Cv::INSTALMENT_NET.number(bytes),
+            gross: gross.number(bytes),
+            discount: discount.number(bytes),
+            net: net.number(bytes),
         }
     }
 
@@ -172,11 +160,16 @@ impl Cv {
     {
         Cv {
             launch_type: Cv::LAUNCH_TYPE.number(bytes),
-            sale: Cv::sale_amounts(bytes),
+            sale: Cv::amounts_in(Cv::SALE_GROSS, Cv::SALE_DISCOUNT, Cv::SALE_NET, bytes),
             instalment: Cv::INSTALMENT.number(bytes),
             instalments: Cv::INSTALMENTS.number(bytes),
             instalment_nsu: Cv::INSTALMENT_NSU.number(bytes),
-            instalment_amounts: Cv::instalment_amounts_of(bytes),
+            instalment_amounts: Cv::amounts_in(
+                Cv::INSTALMENT_GROSS,
+                Cv::INSTALMENT_DISCOUNT,
+                Cv::INSTALMENT_NET,
+                bytes,
+            ),
             nseq: Cv::NSEQ.number(bytes),
         }
     }
@@ -221,13 +214,24 @@ impl Cv {
         ensures { result ≡ first_broken (joined_rules self) }
     {
         let paid_in = self.has_instalment();
-        let amounts = self.instalment_amounts;
         Cv::INSTALMENT.rule(Cause::ValueNotAllowed, self.instalment_right())?;
         Cv::INSTALMENT_NSU.rule(Cause::ValueNotAllowed, paid_in || self.instalment_nsu == 0)?;
-        Cv::INSTALMENT_GROSS.rule(Cause::ValueNotAllowed, paid_in || amounts.gross == 0)?;
-        Cv::INSTALMENT_DISCOUNT.rule(Cause::ValueNotAllowed, paid_in || amounts.discount == 0)?;
-        Cv::INSTALMENT_NET.rule(Cause::ValueNotAllowed, paid_in || amounts.net == 0)?;
+        Cv::INSTALMENT_GROSS.rule(
+            Cause::ValueNotAllowed,
+            paid_in || self.instalment_amounts.gross == 0,
+        )?;
+        Cv::INSTALMENT_DISCOUNT.rule(
+            Cause::ValueNotAllowed,
+            paid_in || self.instalment_amounts.discount == 0,
+        )?;
+        Cv::INSTALMENT_NET.rule(
+            Cause::ValueNotAllowed,
+            paid_in || self.instalment_amounts.net == 0,
+        )?;
         Cv::SALE_NET.rule(Cause::AmountsDisagree, self.sale.agree())?;
-        Cv::INSTALMENT_NET.rule(Cause::AmountsDisagree, !paid_in || amounts.agree())
+        Cv::INSTALMENT_NET.rule(
+            Cause::AmountsDisagree,
+            !paid_in || self.instalment_amounts.agree(),
+        )
     }
 }

@@ -30,55 +30,61 @@ use totals::amounts::Totals;
 fn counted(numbers: Accepted) -> Accepted
     ensures { result ≡ counted numbers }
 {
-    let mut next = numbers;
-    next.records = totals::sum::added(numbers.records, 1);
-    next
+    Accepted {
+        records: totals::sum::added(numbers.records, 1),
+        ..numbers
+    }
 }
 
 // With the date and the movement that A0 states.
 fn headed(numbers: Accepted, a0: A0) -> Accepted
     ensures { result ≡ headed a0 numbers }
 {
-    let mut next = numbers;
-    next.date = a0.date;
-    next.movement = a0.movement;
-    next
+    Accepted {
+        date: a0.date,
+        movement: a0.movement,
+        ..numbers
+    }
 }
 
 // With one sale more, forecast or settled.
 fn sold(numbers: Accepted, forecast: bool, sale: Totals) -> Accepted
     ensures { result ≡ sold forecast sale numbers }
 {
-    let mut next = numbers;
-    next.totals = numbers.totals.one_more(forecast, sale);
-    next
+    Accepted {
+        totals: numbers.totals.one_more(forecast, sale),
+        ..numbers
+    }
 }
 
 // With one credit more.
 fn credited(numbers: Accepted, net: u64) -> Accepted
     ensures { result ≡ credited net numbers }
 {
-    let mut next = numbers;
-    next.credits = numbers.credits.one_more(net);
-    next
+    Accepted {
+        credits: numbers.credits.one_more(net),
+        ..numbers
+    }
 }
 
 // With one debit more.
 fn debited(numbers: Accepted, net: u64) -> Accepted
     ensures { result ≡ debited net numbers }
 {
-    let mut next = numbers;
-    next.debits = numbers.debits.one_more(net);
-    next
+    Accepted {
+        debits: numbers.debits.one_more(net),
+        ..numbers
+    }
 }
 
 // With one batch more.
 fn one_batch_more(numbers: Accepted) -> Accepted
     ensures { result ≡ one_batch_more numbers }
 {
-    let mut next = numbers;
-    next.batches = totals::sum::added(numbers.batches, 1);
-    next
+    Accepted {
+        batches: totals::sum::added(numbers.batches, 1),
+        ..numbers
+    }
 }
 
 // Behind A0: its date and movement are the file's.

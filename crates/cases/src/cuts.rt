@@ -93,6 +93,7 @@ pub fn how_many<F: Fn(usize) -> bool>(file: &[u8], test: F) -> u64
     requires { (place : ℕ) → place ≤ length file.now → F.pre test place }
     ensures { (all : Bool) → ((place : ℕ) (answer : Bool) → place ≤ length file.now → F.post test place answer → answer ≡ all) → result ≡ cond all (length file.now + 1) 0 }
 {
+    // A `filter` that is counted, by a test handed over, wants laws of what the adapter ran and that it may call the test: this loop has one invariant.
     let mut passed = 0;
     for place in 0..file.len() + 1 {
         if test(place) {

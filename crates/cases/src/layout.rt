@@ -63,7 +63,7 @@ impl Layout {
         }
     }
 
-    // Prints what is to be printed of each case. The cases stand one behind the other, each as long as its own front says.
+    // Prints what is to be printed of each case. The cases stand one behind the other, each as long as its own front says: no iterator of the library goes so.
     pub fn print_cases<F: Fn([u64; 2], &[u8])>(self, cases: &[u8], print: F)
         requires has_bytes { HasBytes self.size }
         requires callable { F.IsAlwaysCallable print }

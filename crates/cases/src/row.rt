@@ -18,7 +18,7 @@ pub fn card_row(answer: CardAnswer) -> [u64; CARD_NUMBERS]
     numbers
 }
 
-// Whether two rows are the same.
+// Whether two rows are the same: `==`, under a name that `answers` cites.
 #[tactic(auto, using(text::proofs::Literals::pair_by_pair))]
 pub fn same(a: &[u64], b: &[u64]) -> bool
     ensures { result ≡ same_bytes a.now b.now }

@@ -18,7 +18,7 @@ pub struct Unfinished {
 }
 
 impl Unfinished {
-    // No byte has come.
+    // No byte has come. (No derived `Default`: of an array it tells each byte, and would want a law that all of them are these zeros.)
     pub fn none() -> Unfinished
         ensures { result ≡ holding [] }
     {

@@ -12,10 +12,11 @@ use lib.ListN.{length, get_or, take, drop, set, length-take, drop_of_length-le}
 use lib.Seq.{drop-cons, drop-drop, get_or-take, length-take-le, take-suc-set}
 use lib.Dec.{lit≤, leb}
 use Rattle.text.proofs.Alphabets.{both_left, both_right}
+use Rattle.day_sheet.specs.declared.number.Form.{Form}
 use Rattle.day_sheet.specs.declared.number.Form.TheVariants.{Bytes}
 use Rattle.day_sheet.specs.declared.layout.Place.{Place}
 use Rattle.day_sheet.specs.Number.{base, zero_byte, holds_right, in_base, value_in}
-use Rattle.day_sheet.specs.Layout.{bytes, digits, version2, table_width, in_places, from_places, digits_right}
+use Rattle.day_sheet.specs.Layout.{bytes, version2, table_width, in_places, from_places, digits_right}
 use Rattle.day_sheet.specs.FirstPlaces.{first_places}
 
 -- the number that stands in a place
@@ -69,29 +70,20 @@ module _ (n k : ℕ) {p : Place} (few : n ≤ 14) (in_table : k < n) (is : p ≡
   next_written ns h =
       ap₂ in_places next (drop-cons ns k 0 h ∙ ap (λ (j : ℕ). get_or ns k 0 ∷ drop j ns) (sym (add-one k)))
 
--- the place of a number, by its width: the third and the fourth are in digits, all others in bytes
-abbrev AllBytes : List Place → Type 0
-AllBytes [] = Unit {0}
-AllBytes (p ∷ ps) = (Bytes ≡ p.form) × AllBytes ps
+-- the place of a number, by its width and form as one pair
+abbrev pair : Place → ℕ × Form
+pair p = (p.width, p.form)
 
-by_width : (ps : List Place) → AllBytes ps → (n : ℕ) → bytes (get_or (map (λ (p : Place). p.width) ps) n 0) ≡ get_or ps n (bytes 0)
-by_width [] a n = refl
-by_width (p ∷ ps) a zero = λ i. record { width = p.width; form = a.0 i }
-by_width (p ∷ ps) a (suc n) = by_width ps a.1 n
+abbrev place : ℕ × Form → Place
+place w = record { width = w.0; form = w.1 }
 
-pub in_digits : (n : ℕ) → 2 ≤ n → n < 4 → digits (get_or (map (λ (p : Place). p.width) version2) n 0) ≡ get_or version2 n (bytes 0)
-in_digits zero a b = absurd (omega arith)
-in_digits (suc zero) a b = absurd (omega arith)
-in_digits (suc (suc zero)) a b = refl
-in_digits (suc (suc (suc zero))) a b = refl
-in_digits (suc (suc (suc (suc n)))) a b = absurd (omega arith)
+by_pair : (ps : List Place) (n : ℕ) → place (get_or (map pair ps) n (0, Bytes)) ≡ get_or ps n (bytes 0)
+by_pair [] n = refl
+by_pair (p ∷ ps) zero = refl
+by_pair (p ∷ ps) (suc n) = by_pair ps n
 
-pub in_bytes : (n : ℕ) → (n ≡ 2 → ⊥) → (n ≡ 3 → ⊥) → bytes (get_or (map (λ (p : Place). p.width) version2) n 0) ≡ get_or version2 n (bytes 0)
-in_bytes zero a b = refl
-in_bytes (suc zero) a b = refl
-in_bytes (suc (suc zero)) a b = absurd (a refl)
-in_bytes (suc (suc (suc zero))) a b = absurd (b refl)
-in_bytes (suc (suc (suc (suc n)))) a b = by_width (drop 4 version2) (refl, (refl, (refl, (refl, (refl, (refl, (refl, (refl, (refl, (refl, tt)))))))))) n
+pub by_table : (n : ℕ) → place (get_or (map pair version2) n (0, Bytes)) ≡ get_or version2 n (bytes 0)
+by_table n = by_pair version2 n
 
 -- no place is wider than eight bytes
 abbrev narrow : List Place → Bool

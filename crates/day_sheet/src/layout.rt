@@ -80,23 +80,32 @@ pub struct Place {
     pub form: Form,
 }
 
-// How many bytes each number takes. The forms stand in `place_of` beside it: a table of places would want a call in a constant.
-const WIDTHS: [usize; PLACES] = [2, 1, 8, 6, 4, 4, 8, 8, 8, 1, 4, 8, 8, 8];
+// How many bytes each number takes, and in which form: date and movement are ASCII digits.
+const TABLE: [(usize, Form); PLACES] = [
+    (2, Form::Bytes),
+    (1, Form::Bytes),
+    (8, Form::Digits),
+    (6, Form::Digits),
+    (4, Form::Bytes),
+    (4, Form::Bytes),
+    (8, Form::Bytes),
+    (8, Form::Bytes),
+    (8, Form::Bytes),
+    (1, Form::Bytes),
+    (4, Form::Bytes),
+    (8, Form::Bytes),
+    (8, Form::Bytes),
+    (8, Form::Bytes),
+];
 
-// The place of a number, from 0: date and movement are ASCII digits.
-#[tactic(auto, using(crate::proofs::NextPlace::in_digits, crate::proofs::NextPlace::in_bytes))]
+// The place of a number, from 0.
+#[tactic(auto, using(crate::proofs::NextPlace::by_table))]
 pub(crate) fn place_of(number: usize) -> Place
     requires { number < 14 }
     ensures { result ≡ get_or version2 number (bytes 0) }
 {
-    let form = match number {
-        DATE | MOVEMENT => Form::Digits,
-        _ => Form::Bytes,
-    };
-    Place {
-        width: WIDTHS[number],
-        form,
-    }
+    let (width, form) = TABLE[number];
+    Place { width, form }
 }
 
 // The version of a sheet.

@@ -36,6 +36,7 @@ impl Form {
     pub fn put(self, number: u64, part: &mut [u8])
         ensures { part.new ≡ in_base (base self) (zero_byte self) (length part.old) number }
     {
+        // By index: behind `iter_mut().rev()` the proof has the bytes lent one by one, and no name for the part that they make.
         let mut left = number;
         for i in (0..part.len()).rev() {
             part[i] = self.last_digit(left);

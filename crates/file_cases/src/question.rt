@@ -9,7 +9,7 @@ use sheet_program::read::SheetOutcome;
 use sheet_program::{convert, read};
 
 // The letters of the questions: a card file or a payroll file is checked, a card file masked into OUT, its day sheet written to OUT, and a day sheet read, or
-// converted into OUT; a card file's adjustments are told, or written to OUT.
+// converted into OUT; a card file's adjustments are told, or written to OUT. Letters and no enum: the stored cases hold them, and each is looked at once.
 const CARD: u64 = b'C' as u64;
 
 const PAYROLL: u64 = b'P' as u64;

@@ -6,7 +6,7 @@ use cases::{cursor, print};
 // How many bytes a letter takes.
 const LETTER_BYTES: u64 = 1;
 
-// Makes the folder OUT, puts a file with the content FILE at OUT, and leaves the folder OUT.
+// Letters of the stored cases, each looked at once: makes the folder OUT, puts a file with the content FILE at OUT, and leaves the folder OUT.
 const FOLDER: u64 = b'F' as u64;
 
 const PUT: u64 = b'W' as u64;

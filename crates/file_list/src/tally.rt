@@ -15,7 +15,7 @@ pub enum Said {
     Unreadable,
 }
 
-#[derive(Clone, Copy)]
+#[derive(Clone, Copy, Default)]
 pub struct Tally {
     pub files: u64,
     pub accepted: u64,
@@ -28,12 +28,7 @@ impl Tally {
     pub fn none() -> Tally
         ensures { result ≡ no_file }
     {
-        Tally {
-            files: 0,
-            accepted: 0,
-            refused: 0,
-            unreadable: 0,
-        }
+        Tally::default()
     }
 
     // One file more, each number at most the largest of 64 bits.

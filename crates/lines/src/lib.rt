@@ -44,7 +44,8 @@ pub fn first_piece(bytes: &[u8]) -> Option<(&[u8], &[u8])>
     Some((piece, behind))
 }
 
-// Takes the pieces that an LF ends, one after the other, and hands back what is left behind the last LF.
+// Takes the pieces that an LF ends, one after the other, and hands back what is left behind the last LF. (A `while`: an iterator would keep what is left to
+// itself.)
 pub fn take_pieces<S: Drop, F: Fn(S, &[u8]) -> S>(state: S, bytes: &[u8], step: F) -> (S, &[u8])
     requires { F.IsAlwaysCallable step }
     ensures taken { (meant : S → List ℕ → S) → Means (F.post step) meant → result.0 ≡ foldl meant state (cut bytes.now).pieces }

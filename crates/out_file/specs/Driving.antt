@@ -5,7 +5,7 @@ use Rattle.out_file.specs.declared.step.Step.{Step}
 use Rattle.out_file.specs.declared.step.Step.TheVariants.{Write, Gone}
 use Rattle.out_file.specs.declared.step.Went.{Went}
 
--- one answer led from a step to another
+-- one answer led from a step to another: of two steps, and so of no type alone
 pub record Turned (from to : Step) : Type 0 where
   pub went : Went
   pub reached : to ≡ next_of from went

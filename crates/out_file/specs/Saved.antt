@@ -32,7 +32,7 @@ saved_of Kept error = kept
 saved_of Unsynced error = Err (System Sync error)
 saved_of Gone error = not_written error
 
--- whatever is told is a mistake of the files
+-- whatever is told is a mistake of the files; a mistake of other kinds is told elsewhere, so that it is no invariant of `Mistake`
 abbrev pub TellsOfFiles : Saved → Type 0
 TellsOfFiles (Ok none) = Unit {0}
 TellsOfFiles (Err mistake) = OfTheFiles mistake

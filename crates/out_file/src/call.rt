@@ -66,8 +66,7 @@ impl Draft {
         ensures { Turned self.step result.step }
     {
         let mut name = [0u8; beside::ROOM];
-        let mark = self.mark;
-        let size = beside::put_name(path, mark, &mut name);
+        let size = beside::put_name(path, self.mark, &mut name);
         self.create_as(rt, &mut name[0..size])
     }
 

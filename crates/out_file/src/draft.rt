@@ -9,7 +9,7 @@ use crate::step::{Step, Went};
 use std::fs::File;
 
 // A file in the making: the open file, the mark in its temporary name, the call that comes next, and the number of the error that the first call that
-// failed left, 0 before.
+// failed left, 0 before. A number and no `Option`: what may not change is `saved_of`, which tells the number, and so 0 too (`files::error::number`).
 #[derive(Drop)]
 pub struct Draft {
     pub file: Option<File>,
@@ -101,7 +101,7 @@ impl Draft {
         self.step.is_resting()
     }
 
-    // Makes the machine's calls until it rests.
+    // Makes the machine's calls until it rests. (A `while`: there is nothing to go over, and the measure is the machine's.)
     fn drive(self, rt: &HostRuntime, path: &[u8]) -> Draft
         ensures { Driven result.step self.step }
     {

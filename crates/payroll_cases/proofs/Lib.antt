@@ -1,4 +1,3 @@
 pub mod Chunks
-pub mod Digits
 pub mod Making
 pub mod Taking

@@ -1,16 +1,12 @@
 -- The records of files that are made: blanks, and numbers at their positions.
-use Rattle.std.specs.Prelude.{ℕ, zero, suc, ◌+◌, ◌*◌, ◌-◌, ◌/◌, ◌%◌, List, [], ◌∷◌, ◌++◌, Option, None, Some, cond, ◌&&◌, length, take, drop, set, replicate, leb}
+use Rattle.std.specs.Prelude.{ℕ, ◌+◌, ◌*◌, ◌-◌, ◌%◌, List, ◌++◌, fold, Option, None, Some, cond, ◌&&◌, length, take, drop, set, replicate, leb}
+use Rattle.day_sheet.specs.Number.{in_base}
 use Rattle.payroll_cases.specs.declared.record.Field.{Field}
 use Rattle.payroll_cases.specs.declared.record.Record.{Record}
 
--- the last digits of a number, so many of them
-unfoldable pub digits_of : ℕ → ℕ → List ℕ
-digits_of zero n = []
-digits_of (suc w) n = digits_of w (n / 10) ++ ((48 + n % 10) ∷ [])
-
--- a number behind the first bytes of a record, up to the last of the field
+-- a number's last ASCII digits behind the first bytes of a record, up to the last of the field
 abbrev pub with_number : ℕ → ℕ → ℕ → List ℕ → List ℕ
-with_number first last n r = take first r ++ (digits_of (last - first) n ++ drop last r)
+with_number first last n r = take first r ++ (in_base 10 48 (last - first) n ++ drop last r)
 
 -- where the field lies within the record
 unfoldable pub with_field : Field → List ℕ → List ℕ
@@ -27,7 +23,7 @@ front_of what = record { first = 0; last = 8; number = 42200000 + what.batch % 1
 
 -- all numbers of a record
 unfoldable pub with_numbers : Record → List ℕ → List ℕ
-with_numbers what r = with_own what.three (with_own what.two (with_own what.one (with_field (front_of what) r)))
+with_numbers what r = fold (λ made own. with_own own made) (with_field (front_of what) r) what.fields
 
 -- 240 blanks, with the letter 14, and CR LF
 abbrev pub blanks_with : ℕ → List ℕ

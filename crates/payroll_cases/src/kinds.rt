@@ -18,13 +18,15 @@ pub fn file_header() -> Record
         kind: 0,
         batch: 0,
         letter: b' ',
-        one: Some(Field {
-            first: 142,
-            last: 151,
-            number: HEADER_DATE,
-        }),
-        two: None,
-        three: None,
+        fields: [
+            Some(Field {
+                first: 142,
+                last: 151,
+                number: HEADER_DATE,
+            }),
+            None,
+            None,
+        ],
     }
 }
 
@@ -35,9 +37,7 @@ pub fn batch_header(batch: u64) -> Record
         kind: 1,
         batch,
         letter: b' ',
-        one: None,
-        two: None,
-        three: None,
+        fields: [None, None, None],
     }
 }
 
@@ -49,21 +49,23 @@ pub fn payment(batch: u64, amount: u64, number: u64) -> Record
         kind: 3,
         batch,
         letter: b'A',
-        one: Some(Field {
-            first: 8,
-            last: 13,
-            number,
-        }),
-        two: Some(Field {
-            first: 93,
-            last: 101,
-            number: DATE,
-        }),
-        three: Some(Field {
-            first: 119,
-            last: 134,
-            number: amount,
-        }),
+        fields: [
+            Some(Field {
+                first: 8,
+                last: 13,
+                number,
+            }),
+            Some(Field {
+                first: 93,
+                last: 101,
+                number: DATE,
+            }),
+            Some(Field {
+                first: 119,
+                last: 134,
+                number: amount,
+            }),
+        ],
     }
 }
 
@@ -75,17 +77,19 @@ pub fn batch_trailer(batch: u64, payments: u32, sum: u64) -> Record
         kind: 5,
         batch,
         letter: b' ',
-        one: Some(Field {
-            first: 17,
-            last: 23,
-            number: payments as u64 + 2,
-        }),
-        two: Some(Field {
-            first: 23,
-            last: 41,
-            number: sum,
-        }),
-        three: None,
+        fields: [
+            Some(Field {
+                first: 17,
+                last: 23,
+                number: payments as u64 + 2,
+            }),
+            Some(Field {
+                first: 23,
+                last: 41,
+                number: sum,
+            }),
+            None,
+        ],
     }
 }
 
@@ -97,16 +101,18 @@ pub fn file_trailer(batches: u64, records: u64) -> Record
         kind: 9,
         batch: 9999,
         letter: b' ',
-        one: Some(Field {
-            first: 17,
-            last: 23,
-            number: batches,
-        }),
-        two: Some(Field {
-            first: 23,
-            last: 29,
-            number: records,
-        }),
-        three: None,
+        fields: [
+            Some(Field {
+                first: 17,
+                last: 23,
+                number: batches,
+            }),
+            Some(Field {
+                first: 23,
+                last: 29,
+                number: records,
+            }),
+            None,
+        ],
     }
 }

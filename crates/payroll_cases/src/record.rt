@@ -1,7 +1,9 @@
 // The records of the files that are made here: blanks, and numbers at their positions.
-ghost use Rattle.std.specs.Prelude.{◌≡◌, length};
-ghost use Rattle.payroll_cases.specs.Record.{digits_of, with_field, with_own, with_numbers, record_of};
+ghost use Rattle.std.specs.Prelude.{◌≡◌};
+ghost use Rattle.payroll_cases.specs.Record.{with_field, with_own, with_numbers, record_of};
 ghost use Rattle.payroll_cases.specs.Made.{made, put_behind};
+
+use day_sheet::number::Form;
 
 // A number that stands behind the first `first` bytes of a record, up to the `last` one.
 #[derive(Clone, Copy)]
@@ -17,9 +19,7 @@ pub struct Record {
     pub kind: u64,
     pub batch: u64,
     pub letter: u8,
-    pub one: Option<Field>,
-    pub two: Option<Field>,
-    pub three: Option<Field>,
+    pub fields: [Option<Field>; 3],
 }
 
 // How many bytes a record takes, with its line end.
@@ -28,17 +28,6 @@ pub const WIDTH: usize = 242;
 // The number of the bank, which every record begins with, before a batch and a kind.
 const BANK: u64 = 42_200_000;
 
-// Puts the last digits of a number, with zeros in front.
-fn put_digits(n: u64, field: &mut [u8])
-    ensures { field.new ≡ digits_of (length field.old) n }
-{
-    let mut rest = n;
-    for place in (0..field.len()).rev() {
-        field[place] = b'0' + (rest % 10) as u8;
-        rest /= 10;
-    }
-}
-
 // Puts a field's number where the field lies within the bytes.
 fn put_field(field: Field, bytes: &mut [u8])
     ensures { bytes.new ≡ with_field field bytes.old }
@@ -46,7 +35,7 @@ fn put_field(field: Field, bytes: &mut [u8])
     let first = field.first;
     let last = field.last;
     if first <= last && last <= bytes.len() {
-        put_digits(field.number, &mut bytes[first..last]);
+        Form::Digits.put(field.number, &mut bytes[first..last]);
     }
 }
 
@@ -70,9 +59,9 @@ fn put_numbers(what: Record, bytes: &mut [u8])
         number: BANK + what.batch % 10_000 * 10 + what.kind % 10,
     };
     put_field(front, bytes);
-    put_own(what.one, bytes);
-    put_own(what.two, bytes);
-    put_own(what.three, bytes);
+    for field in what.fields {
+        put_own(field, bytes);
+    }
 }
 
 // Puts bytes behind the first `at` where there is room for them, and answers how many are there then.

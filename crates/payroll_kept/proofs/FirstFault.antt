@@ -16,8 +16,7 @@ use Rattle.payroll_record.specs.declared.kind.Kind.TheVariants.{FileHeader, Batc
 use Rattle.payroll_record.specs.declared.reading.Reading.{Reading}
 use Rattle.payroll_record.specs.declared.reading.Reading.TheVariants.{
   WrongWidth as wrong_width,
-  UnknownKind as unknown_kind,
-  UnknownSegment as unknown_segment,
+  Unknown as unknown,
   FileHeader as file_header,
   BatchHeader as batch_header,
   Detail as detail,
@@ -51,8 +50,7 @@ module _ (st : Running) (going : Going st) where
   pub goes_on : (reading : Reading) → Going (behind st reading)
   unfolding behind
   goes_on wrong_width = going
-  goes_on unknown_kind = going
-  goes_on unknown_segment = going
+  goes_on (unknown x) = going
   goes_on (file_header x) = λ x q. clash (cc)
   goes_on (batch_header x) = λ x q. clash (cc)
   goes_on (detail d) = detail_goes_on d.segment d.amount

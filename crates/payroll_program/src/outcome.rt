@@ -13,7 +13,7 @@ use refusal::Progress;
 
 pub type PayrollOutcome = Result<PayrollAnswer, Mistake>;
 
-// Whether no further byte can change an answer.
+// Whether no further byte can change an answer. (What may not change is that this and `outcome_at` are asked by their names.)
 pub fn is_decided(progress: Progress<Accepted>) -> bool
     ensures { result ≡ is_decided progress }
 {

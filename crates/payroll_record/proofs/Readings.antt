@@ -29,8 +29,7 @@ use Rattle.payroll_record.specs.declared.file_trailer.FileTrailer.{FileTrailer a
 use Rattle.payroll_record.specs.declared.reading.Reading.{Reading}
 use Rattle.payroll_record.specs.declared.reading.Reading.TheVariants.{
   WrongWidth as wrong_width,
-  UnknownKind as unknown_kind,
-  UnknownSegment as unknown_segment,
+  Unknown as unknown,
   FileHeader as file_header,
   BatchHeader as batch_header,
   Detail as detail,
@@ -53,8 +52,7 @@ pub record Found (found : KindFound) (r : List ℕ) : Type 0 where
 -- what a reading tells of it: nothing, where the width is wrong
 abbrev pub found_in : Reading → List KindFound
 found_in wrong_width = []
-found_in unknown_kind = Err UnknownKind ∷ []
-found_in unknown_segment = Err UnknownSegment ∷ []
+found_in (unknown no_kind) = Err no_kind ∷ []
 found_in (file_header h) = Ok FileHeader ∷ []
 found_in (batch_header h) = Ok BatchHeader ∷ []
 found_in (detail d) = Ok d.segment ∷ []
@@ -71,8 +69,7 @@ kept (Ok SegmentB) r = refl
 kept (Ok SegmentZ) r = refl
 kept (Ok BatchTrailer) r = refl
 kept (Ok FileTrailer) r = refl
-kept (Err UnknownKind) r = refl
-kept (Err UnknownSegment) r = refl
+kept (Err no_kind) r = refl
 
 -- two different values are not equal
 never : {A : Type 0} → ◌≡◌ {A = ℕ} 0 1 → A
@@ -172,10 +169,10 @@ nothing_else r found x told is =
     let law = told_found r found x told in
     (λ e. (law.0 e).0, λ h. law.1 (h, is))
 
-pub unknown_kind_lem : (r : List ℕ) → (reading_of r ≡ unknown_kind) ↔ Found (Err UnknownKind) r
+pub unknown_kind_lem : (r : List ℕ) → (reading_of r ≡ unknown UnknownKind) ↔ Found (Err UnknownKind) r
 unfolding read_found
-unknown_kind_lem r = nothing_else r (Err UnknownKind) unknown_kind refl refl
+unknown_kind_lem r = nothing_else r (Err UnknownKind) (unknown UnknownKind) refl refl
 
-pub unknown_segment_lem : (r : List ℕ) → (reading_of r ≡ unknown_segment) ↔ Found (Err UnknownSegment) r
+pub unknown_segment_lem : (r : List ℕ) → (reading_of r ≡ unknown UnknownSegment) ↔ Found (Err UnknownSegment) r
 unfolding read_found
-unknown_segment_lem r = nothing_else r (Err UnknownSegment) unknown_segment refl refl
+unknown_segment_lem r = nothing_else r (Err UnknownSegment) (unknown UnknownSegment) refl refl

@@ -10,12 +10,10 @@ use Rattle.payroll_record.specs.declared.kind.Kind.TheVariants.{
   BatchTrailer,
   FileTrailer,
 }
-use Rattle.payroll_record.specs.declared.kind.NoKind.TheVariants.{UnknownKind, UnknownSegment}
 use Rattle.payroll_record.specs.declared.reading.Reading.{Reading}
 use Rattle.payroll_record.specs.declared.reading.Reading.TheVariants.{
   WrongWidth as wrong_width,
-  UnknownKind as unknown_kind,
-  UnknownSegment as unknown_segment,
+  Unknown as unknown,
   FileHeader as file_header,
   BatchHeader as batch_header,
   Detail as detail,
@@ -40,8 +38,7 @@ read_as FileTrailer r = file_trailer (file_trailer_of r)
 
 unfoldable pub read_found : KindFound → List ℕ → Reading
 read_found (Ok kind) r = read_as kind r
-read_found (Err UnknownKind) r = unknown_kind
-read_found (Err UnknownSegment) r = unknown_segment
+read_found (Err no_kind) r = unknown no_kind
 
 -- any bytes as a record: "240 bytes"
 abbrev pub reading_of : List ℕ → Reading

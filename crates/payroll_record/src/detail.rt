@@ -11,6 +11,7 @@ use text::number::NoNumber;
 // The fault in front of its batch number, that number, its detail number, the fault behind it, and a payment's amount.
 #[derive(Clone, Copy)]
 pub struct Detail {
+    // One of three. (A `Kind`, since `Detail::read_other` takes any, and `detail_of` and `other_segment_of` say so: what may not change.)
     pub segment: Kind,
     pub front: Result<(), Fault>,
     pub batch: Result<u64, NoNumber>,

@@ -13,8 +13,7 @@ use crate::kind::{Kind, NoKind};
 #[derive(Clone, Copy)]
 pub enum Reading {
     WrongWidth,
-    UnknownKind,
-    UnknownSegment,
+    Unknown(NoKind),
     FileHeader(FileHeader),
     BatchHeader(BatchHeader),
     Detail(Detail),
@@ -48,7 +47,6 @@ pub fn read(bytes: &[u8]) -> Reading
     }
     match crate::kind::kind_of(bytes) {
         Ok(kind) => read_as(kind, bytes),
-        Err(NoKind::UnknownKind) => Reading::UnknownKind,
-        Err(NoKind::UnknownSegment) => Reading::UnknownSegment,
+        Err(unknown) => Reading::Unknown(unknown),
     }
 }

@@ -16,8 +16,7 @@ use Rattle.payroll_record.specs.declared.detail.Detail.{Detail}
 use Rattle.payroll_record.specs.declared.reading.Reading.{Reading}
 use Rattle.payroll_record.specs.declared.reading.Reading.TheVariants.{
   WrongWidth as wrong_width,
-  UnknownKind as unknown_kind,
-  UnknownSegment as unknown_segment,
+  Unknown as unknown,
   FileHeader as file_header,
   BatchHeader as batch_header,
   Detail as detail,
@@ -58,8 +57,7 @@ behind_detail st r = behind_detail_as r.segment st r.amount
 -- behind a record that keeps the rules
 unfoldable pub behind : Running → Reading → Running
 behind st wrong_width = st
-behind st unknown_kind = st
-behind st unknown_segment = st
+behind st (unknown no_kind) = st
 behind st (file_header r) = behind_header st r
 behind st (batch_header r) = behind_batch_header st
 behind st (detail r) = behind_detail st r

@@ -72,7 +72,7 @@ impl Running {
         ensures { result ≡ behind self reading }
     {
         match reading {
-            Reading::WrongWidth | Reading::UnknownKind | Reading::UnknownSegment => self,
+            Reading::WrongWidth | Reading::Unknown(_) => self,
             Reading::FileHeader(header) => self.behind_header(header),
             Reading::BatchHeader(_) => self.behind_batch_header(),
             Reading::Detail(detail) => self.behind_detail(detail),

@@ -6,11 +6,11 @@ use Rattle.refusal.specs.Rules.{Rule, rule_at}
 use Rattle.text.specs.Number.{Number}
 use Rattle.payroll_record.specs.declared.kind.Kind.{Kind}
 use Rattle.payroll_record.specs.declared.kind.Kind.TheVariants.{FileHeader, BatchHeader, BatchTrailer, FileTrailer}
+use Rattle.payroll_record.specs.declared.kind.NoKind.TheVariants.{UnknownKind, UnknownSegment}
 use Rattle.payroll_record.specs.declared.reading.Reading.{Reading}
 use Rattle.payroll_record.specs.declared.reading.Reading.TheVariants.{
   WrongWidth as wrong_width,
-  UnknownKind as unknown_kind,
-  UnknownSegment as unknown_segment,
+  Unknown as unknown,
   FileHeader as file_header,
   BatchHeader as batch_header,
   Detail as detail,
@@ -49,8 +49,8 @@ judged_rules st kind front dues numbers behind = placed_rules st kind (found_rul
 unfoldable pub rules_of : Running → Reading → List Rule
 rules_of st wrong_width = rule_at WrongWidth 0 false ∷ []
 -- "An unknown kind is 4, column 8; an unknown segment 4, column 14"
-rules_of st unknown_kind = rule_at KindUnknown 8 false ∷ []
-rules_of st unknown_segment = rule_at KindUnknown 14 false ∷ []
+rules_of st (unknown UnknownKind) = rule_at KindUnknown 8 false ∷ []
+rules_of st (unknown UnknownSegment) = rule_at KindUnknown 14 false ∷ []
 rules_of st (file_header r) = judged_rules st FileHeader r.fault (due_of FileHeader st) [] (limits_of FileHeader st)
 rules_of st (batch_header r) = judged_rules st BatchHeader r.front (due_of BatchHeader st) (r.batch ∷ []) (limits_of BatchHeader st)
 rules_of st (detail r) = judged_rules st r.segment r.front (due_in_detail st) (r.batch ∷ r.number ∷ []) (found_rules r.rest)

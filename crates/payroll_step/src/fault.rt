@@ -12,7 +12,7 @@ use payroll_record::batch_trailer::BatchTrailer;
 use payroll_record::detail::Detail;
 use payroll_record::field::Field;
 use payroll_record::file_trailer::FileTrailer;
-use payroll_record::kind::Kind;
+use payroll_record::kind::{Kind, NoKind};
 use payroll_record::reading::Reading;
 use payroll_run::running::Running;
 use refusal::{Cause, Fault};
@@ -83,8 +83,8 @@ pub(crate) fn fault(state: Running, reading: Reading) -> Result<(), Fault>
 {
     match reading {
         Reading::WrongWidth => refusal::rule(Cause::WrongWidth, 0, false),
-        Reading::UnknownKind => refusal::rule(Cause::KindUnknown, 8, false),
-        Reading::UnknownSegment => refusal::rule(Cause::KindUnknown, 14, false),
+        Reading::Unknown(NoKind::UnknownKind) => refusal::rule(Cause::KindUnknown, 8, false),
+        Reading::Unknown(NoKind::UnknownSegment) => refusal::rule(Cause::KindUnknown, 14, false),
         Reading::FileHeader(header) => place_fault(state, Kind::FileHeader).and(header.fault),
         Reading::BatchHeader(header) => batch_header_fault(state, header),
         Reading::Detail(detail) => detail_fault(state, detail),

@@ -5,7 +5,8 @@ ghost use Rattle.program.specs.Argument.{argument_of, GivenIn, ThreeIn};
 use crate::mistake::Mistake;
 use std::env::{Env, FillError};
 
-// Room for every argument: Linux hands a program none of more than 131,071 bytes. The `ensures` gives only the length, which lending it as a slice needs.
+// Room for every argument: Linux hands a program none of more than 131,071 bytes. The `ensures` gives only the length, which lending it as a slice needs. (Other
+// rooms have functions of their own: one over the length would be called with it, as the literal is.)
 pub fn room() -> [u8; 131072]
     ensures { 131072 ≡ length result }
 {

@@ -38,7 +38,7 @@ pub enum Mistake {
     EditionNoNumber,
     // Another thing than a file stands at OUT.
     OutNoFile,
-    // What failed, and the number of the system's error.
+    // What failed, and the number of the system's error (`files::error::number`).
     System(Failed, u64),
 }
 

@@ -13,7 +13,7 @@ abbrev pub SheetChecked : SheetOutcome → Type 0
 SheetChecked (Ok read) = (bytes : List ℕ) × (read ≡ read_of bytes)
 SheetChecked (Err mistake) = OfTheFiles mistake
 
--- the sheet that was read, in the other version
+-- The sheet that was read, in the other version. `SheetChecked` and `SheetConverted` tell the same values from each other, and so are no invariants of the type.
 abbrev pub converted_read : SheetRead → SheetRead
 converted_read (Ok sheet) = Ok (converted sheet)
 converted_read (Err refusal) = Err refusal

@@ -104,7 +104,7 @@ impl Teller for DaySheet {
     }
 }
 
-// The numbers of a day sheet, its refusal, or the mistake's sentence.
+// The numbers of a day sheet, its refusal, or the mistake's sentence. (This and the two below are lines over what the programs share: what may not change is that each is asked by its name.)
 pub fn put_outcome(outcome: SheetOutcome, out: &mut [u8], at: usize) -> usize
     ensures { Puts (outcome_text outcome) out.old at result out.new }
 {

@@ -1,36 +1,20 @@
--- Laws of the search for a byte that a part may not hold: what one byte does to it, and to whether a part holds only allowed bytes;
--- and that the search passes such bytes.
-use Prim.Native.Nat.{ℕ, zero, suc, ◌+◌, ◌*◌, ◌/◌, ◌≤◌, ◌<◌}
+-- Laws of whether a part holds only allowed bytes: what one byte does to it; and of the search for one that it may not hold: that it passes
+-- allowed bytes, and finds what `position` finds.
+use Prim.Native.Nat.{ℕ, zero, suc, ◌+◌, ◌-◌, ◌*◌, ◌/◌, ◌≤◌, ◌<◌}
 use mathlib.Core.Path.{◌≡◌, refl, sym, ◌∙◌, ap, ap₂}
 use mathlib.Core.List.{List, [], ◌∷◌}
-use mathlib.Core.Bool.{Bool, true, false, cond, ◌&&◌, false≢true}
+use mathlib.Core.Bool.{Bool, true, false, cond, not, ◌&&◌, false≢true}
 use native.Mathlib.Numerals.{add-one}
 use native.Mathlib.Omega.{arith}
 use lib.ListN.{length, get_or, take, drop, length-drop, drop_of_length-le}
-use lib.Seq.{drop-cons, drop-drop}
+use lib.Seq.{drop-cons, drop-drop, take-length}
 use Rattle.text.specs.declared.alphabet.Alphabet.{Alphabet}
-use Rattle.std.specs.List.{prefix_len, take_while}
+use Rattle.std.specs.List.{prefix_len, take_while, position_from}
 use Rattle.std.specs.Simd.{first_chunks}
 use Rattle.std.proofs.lemmas.List.Folds.{length-prefix_len}
 use Rattle.std.proofs.lemmas.List.Sums.{prefix_len-le-length}
-use Rattle.std.specs.Prelude.{Option, Some, None, is_none}
+use Rattle.std.specs.Prelude.{Option, Some, is_none, option_map}
 use Rattle.text.specs.Alphabet.{allowed, holds_only, first_stray}
-
--- an allowed byte: the search goes on behind it
-pub passed : (a : Alphabet) (s : List ℕ) (i : ℕ) → i < length s → allowed a (get_or s i 0) ≡ true →
-    first_stray a i (drop i s) ≡ first_stray a (i + 1) (drop (i + 1) s)
-unfolding first_stray
-passed a s i h e = rw (drop-cons s i 0 h, add-one, e)
-
--- any other byte: the search ends there
-pub found : (a : Alphabet) (s : List ℕ) (i : ℕ) → i < length s → allowed a (get_or s i 0) ≡ false → first_stray a i (drop i s) ≡ Some i
-unfolding first_stray
-found a s i h e = rw (drop-cons s i 0 h, e)
-
--- no byte left: there is none
-pub ended : (a : Alphabet) (s : List ℕ) (i : ℕ) → length s ≤ i → first_stray a i (drop i s) ≡ None
-unfolding first_stray
-ended a s i h = rw (drop_of_length-le s h)
 
 -- a byte that is not allowed: the bytes from there on are not all allowed, whatever those before it are
 pub stained : (p : Bool) (a : Alphabet) (s : List ℕ) (i : ℕ) → i < length s → allowed a (get_or s i 0) ≡ false → p && holds_only a (drop i s) ≡ false
@@ -111,3 +95,21 @@ nowhere a i (b ∷ s) = one (allowed a b) (first_stray a (suc i) s) (nowhere a (
     one : (p : Bool) {q : Bool} (rest : Option ℕ) → q ≡ is_none rest → p && q ≡ is_none (cond p rest (Some i))
     one true rest e = e
     one false rest e = refl
+
+-- the search finds what `position` finds, counted on from i
+counted_from : (a : Alphabet) (i n : ℕ) (s : List ℕ) → first_stray a (i + n) s ≡ option_map (λ (k : ℕ). i + k) (position_from (λ (b : ℕ). not (allowed a b)) n s)
+unfolding first_stray
+counted_from a i n [] = refl
+counted_from a i n (b ∷ s) = one (allowed a b) _ (ap (λ (k : ℕ). first_stray a k s) (omega arith) ∙ counted_from a i (n + 1) s)
+  where
+    one : (p : Bool) (rest : Option ℕ) {left : Option ℕ} → left ≡ option_map (λ (k : ℕ). i + k) rest →
+        cond p left (Some (i + n)) ≡ option_map (λ (k : ℕ). i + k) (cond (not p) (Some n) rest)
+    one true rest e = e
+    one false rest e = refl
+
+-- so what is found behind the first i bytes
+pub counted_on : (a : Alphabet) (i : ℕ) (s : List ℕ) →
+    option_map (λ (k : ℕ). i + k) (position_from (λ (b : ℕ). not (allowed a b)) 0 (take (length s - i) (drop i s))) ≡ first_stray a i (drop i s)
+counted_on a i s =
+    let rest : take (length s - i) (drop i s) ≡ drop i s = rw (← length-drop i s) (take-length (drop i s)) in
+    rw rest (sym (counted_from a i 0 (drop i s)) ∙ ap (λ (k : ℕ). first_stray a k (drop i s)) (omega arith))

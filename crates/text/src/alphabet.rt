@@ -1,6 +1,6 @@
 // Which bytes a part may hold.
-ghost use Rattle.std.specs.Prelude.{◌≡◌, ◌/◌, length};
-ghost use Rattle.std.specs.List.{take_while};
+ghost use Rattle.std.specs.Prelude.{◌≡◌, ◌<◌, ◌/◌, IfSome, length, not};
+ghost use Rattle.std.specs.List.{position_from, take_while};
 ghost use Rattle.std.specs.Simd.{first_chunks};
 ghost use Rattle.text.specs.Alphabet.{allowed, first_stray, holds_only};
 
@@ -58,15 +58,18 @@ fn pure_blocks(alphabet: Alphabet, part: &[u8]) -> usize
         .count()
 }
 
-// The first place whose byte is not of this alphabet.
-#[tactic(auto, using(crate::proofs::Strays::passed, crate::proofs::Strays::found, crate::proofs::Strays::ended))]
+// The first place whose byte is not of this alphabet, looked for byte by byte.
+fn stray_of(alphabet: Alphabet, part: &[u8]) -> Option<usize>
+    ensures place { result ≡ position_from (λ b. not (allowed alphabet b)) 0 part.now }
+    ensures inside { IfSome result (λ i. i < length part.now) }
+{
+    part.iter().position(|&byte| !allows(alphabet, byte))
+}
+
+// The same, looked for behind the blocks that are all of this alphabet.
 pub fn first_stray(alphabet: Alphabet, part: &[u8]) -> Option<usize>
     ensures { result ≡ first_stray alphabet 0 part.now }
 {
-    for i in pure_blocks(alphabet, part) * BLOCK..part.len() {
-        if !allows(alphabet, part[i]) {
-            return Some(i);
-        }
-    }
-    None
+    let passed = pure_blocks(alphabet, part) * BLOCK;
+    stray_of(alphabet, &part[passed..]).map(|i| passed + i)
 }

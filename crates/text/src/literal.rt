@@ -2,7 +2,7 @@
 ghost use Rattle.std.specs.Prelude.{◌≡◌};
 ghost use Rattle.text.specs.Literal.{same_bytes, one_byte_of};
 
-// Whether a part holds exactly the bytes of a short text.
+// Whether a part holds exactly the bytes of a short text: `==`, under a name that contracts and `answers` cite.
 #[tactic(auto, using(crate::proofs::Literals::pair_by_pair))]
 pub fn equals(part: &[u8], literal: &[u8]) -> bool
     ensures { result ≡ same_bytes part.now literal.now }

@@ -12,7 +12,7 @@ returns-then-last-bytes c =
     let ordered = c.if-first-last.true in
     let within = c.if-last-bytes.true in
     rw (le-leb _ _ ordered, le-leb _ _ within)
-    (rw (c.put_digits.ensures, mid_len a.field.first a.field.last a.bytes.now within, Post-is a.field.first a.field.last a.bytes.now ordered))
+    (rw (c.put.ensures, mid_len a.field.first a.field.last a.bytes.now within, Post-is a.field.first a.field.last a.bytes.now ordered))
 
 pub returns-else-first-last : goal.returns-else-first-last
 unfolding with_field

@@ -5,10 +5,10 @@ pub returns : goal.returns
 returns c =
     rw (
       c.number.ensures,
-      c.sale_amounts.ensures,
+      c.amounts_in.ensures,
       c.number-2.ensures,
       c.number-3.ensures,
       c.number-4.ensures,
-      c.instalment_amounts_of.ensures,
+      c.amounts_in-2.ensures,
       c.number-5.ensures,
     )

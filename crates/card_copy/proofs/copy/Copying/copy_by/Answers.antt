@@ -1,4 +1,4 @@
--- `card_copy::copy::copy_by` meets its contract: the bytes that are to be taken lie within the buffer, and those in front of them are what waits of the chunks
+-- `card_copy::copy::Copying::copy_by` meets its contract: the bytes that are to be taken lie within the buffer, and those in front of them are what waits of the chunks
 -- that the stream has taken.
 use Prim.Native.Nat.{ℕ}
 use mathlib.Core.Path.{◌≡◌, ap, ◌∙◌}
@@ -10,7 +10,7 @@ use Rattle.lines.specs.Lines.{cut}
 use Rattle.chunks.specs.Waiting.{unless_full}
 use Rattle.card_program.proofs.Ended.{checked}
 use Rattle.card_copy.proofs.InHand.{none_waits, in_hand, next_waits, next_taken}
-use Rattle.card_copy.proofs.copy.copy_by.Goals as goal
+use Rattle.card_copy.proofs.copy.Copying.copy_by.Goals as goal
 
 pub loop-init : goal.loop-init
 loop-init g c = (search rules, search rules, search rules, none_waits _ c.open-stream.ensures)
