@@ -1,4 +1,4 @@
-// A card file that comes in chunks: its answer is proved to be that of the file read whole.
+// A card file that comes in chunks: its answer is proved to be that of the file read whole. Lines over `cases::cuts`, as those of a payroll file are.
 ghost use Rattle.std.specs.Prelude.{◌≡◌, cond, ◌+◌, ◌≤◌, length};
 ghost use Rattle.card_file.specs.CardFile.{check_of};
 ghost use Rattle.cases.specs.CardNumbers.{card_numbers};

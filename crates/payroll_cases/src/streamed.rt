@@ -1,4 +1,4 @@
-// A payroll file that comes in chunks: its answer is proved to be that of the file read whole.
+// A payroll file that comes in chunks: its answer is proved to be that of the file read whole. Lines over `cases::cuts`, as those of a card file are.
 ghost use Rattle.std.specs.Prelude.{◌≡◌, Some, cond, ◌+◌, ◌≤◌, length};
 ghost use Rattle.text.specs.Literal.{same_bytes};
 ghost use Rattle.payroll_file.specs.PayrollFile.{check_of};
