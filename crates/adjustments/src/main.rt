@@ -6,29 +6,29 @@ use card_copy::output::Output;
 use card_program::outcome::Outcome;
 use card_program::verdict;
 use card_program::verdict::Lines;
-use program::argument;
 use program::mistake::{Mistake, Program};
+use program::{argument, mistake};
 
-// Checks the file on standard input.
-fn check_read(rt: &HostRuntime) -> Outcome {
+// Checks the file on standard input. Here and below, a mistake beside the outcome is one of the arguments.
+fn check_read(rt: &HostRuntime) -> Result<Outcome, Mistake> {
     let mut edition = argument::room();
     let size = argument::read(rt, 1, &mut edition)?;
-    card_program::work::work(&edition[..size], &mut rt.stdin())
+    Ok(card_program::work::work(&edition[..size], &mut rt.stdin()))
 }
 
 // Saves the adjustments of the file that the second argument names in the one that the third does.
-fn save_named(rt: &HostRuntime) -> Outcome {
+fn save_named(rt: &HostRuntime) -> Result<Outcome, Mistake> {
     let mut edition = argument::room();
     let mut file = io::buffer();
     let mut out = io::buffer();
     let (a, b, c) = argument::read_three(rt, &mut edition, &mut file, &mut out)?;
-    card_copy::work::work(
+    Ok(card_copy::work::work(
         rt,
         Output::Adjustments,
         &edition[..a],
         &file[..b],
         &out[..c],
-    )
+    ))
 }
 
 fn main(rt: HostRuntime) {
@@ -37,5 +37,8 @@ fn main(rt: HostRuntime) {
         4 => save_named(&rt),
         _ => Err(Mistake::Usage(Program::Adjustments)),
     };
-    verdict::print(&rt, Lines::Adjustments, outcome);
+    match outcome {
+        Ok(outcome) => verdict::print(&rt, Lines::Adjustments, outcome),
+        Err(mistake) => mistake::tell(&rt, mistake),
+    }
 }

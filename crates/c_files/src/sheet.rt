@@ -24,7 +24,9 @@ pub extern "C" fn lossivurn_sheet_read(bytes: &[u8], row: &mut [u64; SHEET_NUMBE
     *row = sheet_row(day_sheet::reader::read(bytes));
 }
 
-// Writes a new day sheet of a version, whose numbers these are in the layout's order, behind the version: the row of the answer.
+// Writes a new day sheet of a version, whose numbers these are in the layout's order, behind the version: the row of the answer. (Inlined, so that each call
+// knows how many numbers it moves: the archive for C then needs no `memcpy`.)
+#[inline(always)]
 fn write(version: Version, numbers: &[u64], out: &mut [u8]) -> [u64; WRITTEN_NUMBERS]
     requires { length numbers.now ≤ 13 }
     ensures { (number : ℕ) → Told written_numbers (Writes (sheet_of version (number ∷ numbers.now)) out.old) result out.new }

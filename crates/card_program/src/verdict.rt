@@ -15,9 +15,11 @@ ghost use Rattle.card_program.specs.Verdict.{
 
 use crate::outcome::Outcome;
 use card_run::answer::{Accepted, CardAnswer};
+use files::writing;
 use files::writing::Standard;
-use program::outcome;
+use program::mistake::{Failed, Mistake};
 use program::outcome::Teller;
+use program::{mistake, outcome};
 use totals::amounts::Totals;
 use totals::two_sets::TwoSets;
 use wording::{line, put};
@@ -30,6 +32,9 @@ pub enum Lines {
     // Its credits and its debits.
     Adjustments,
 }
+
+// Room for every text.
+const ROOM: usize = 384;
 
 // Each function here puts its text behind the first `at` bytes, and answers how many bytes stand there then. First a line that a word leads.
 fn put_led(word: &[u8], name: &[u8], number: u64, out: &mut [u8], at: usize) -> usize
@@ -111,7 +116,7 @@ impl Teller for Lines {
     }
 }
 
-// The verdict, or the mistake's sentence. (This and the two below are lines over what the programs share: what may not change is that each is asked by its name.)
+// The verdict, or the mistake's sentence. (This and the one below are lines over what the programs share: what may not change is that each is asked by its name.)
 pub fn put_outcome(lines: Lines, outcome: Outcome, out: &mut [u8], at: usize) -> usize
     ensures { Puts (outcome_text lines outcome) out.old at result out.new }
 {
@@ -125,7 +130,18 @@ pub fn descriptor(outcome: Outcome) -> Standard
     outcome::standard(&outcome)
 }
 
+// Writes an outcome's text, and no other. (Here and not in `program::outcome`, so that `print` is held to the outcome that it is given.)
+fn write(rt: &HostRuntime, lines: Lines, outcome: Outcome, text: &[u8])
+    requires { text.now ≡ outcome_text lines outcome }
+{
+    if let Err(error) = writing::write_to(rt, descriptor(outcome), text) {
+        mistake::tell(rt, Mistake::System(Failed::Print, error));
+    }
+}
+
 // Prints the verdict, or tells the mistake, by one call.
 pub fn print(rt: &HostRuntime, lines: Lines, outcome: Outcome) {
-    outcome::print(rt, &lines, outcome);
+    let mut room = [0u8; ROOM];
+    let size = put_outcome(lines, outcome, &mut room, 0);
+    write(rt, lines, outcome, &room[..size]);
 }

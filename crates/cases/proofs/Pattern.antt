@@ -1,5 +1,5 @@
 -- Laws of the pattern that fills an output: one more byte, and the one behind it.
-use Rattle.std.proofs.Common.{◌≡◌, ℕ, ◌+◌, ◌%◌, ◌<◌, ◌≤◌, List, length, take, set, sym, refl, ap, ◌∙◌, add-one, arith, take_all, take-suc-set}
+use Rattle.std.proofs.Common.{◌≡◌, ℕ, ◌+◌, ◌%◌, ◌<◌, List, length, take, set, add-one, arith, take-suc-set}
 use Rattle.cases.specs.Output.{pattern, pattern_at}
 
 -- one more byte behind those that are filled

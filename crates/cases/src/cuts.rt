@@ -78,12 +78,12 @@ pub fn in_chunks<S: Copy, F: Fn(S, &[u8]) -> S>(first: S, file: &[u8], take: F) 
     take(state, &file[at..])
 }
 
-// Hands a file over that is cut in two at a place.
+// Hands a file over that is cut in two at a place, or behind its last byte where the place lies beyond.
 pub fn in_two<S: Copy, F: Fn(S, &[u8]) -> S>(first: S, file: &[u8], place: usize, take: F) -> S
-    requires callable { F.IsAlwaysCallable take }
-    requires within { place ≤ length file.now }
+    requires { F.IsAlwaysCallable take }
     ensures { (taken : S → List ℕ → S) → Takes (λ s chunk r. F.post take s chunk r) taken → result ≡ taken first file.now }
 {
+    let place = place.min(file.len());
     let front = take(first, &file[..place]);
     take(front, &file[place..])
 }

@@ -1,7 +1,6 @@
 // How the cases of a file stand in it, one behind the other: up to two numbers, and then a part.
 ghost use Rattle.std.specs.Prelude.{◌≤◌};
 ghost use Rattle.totals.specs.Sum.{capped};
-ghost use Rattle.cases.specs.Layout.{HasBytes};
 
 use crate::cursor::{EDITION_BYTES, LENGTH_BYTES, Number};
 use crate::{cursor, file};
@@ -39,20 +38,21 @@ struct Case {
 }
 
 impl Layout {
-    // The part that begins at a place, or whose length does.
+    // The part that begins at a place, or whose length does. One that would have no byte has one, so that each case takes some.
     fn part_at(self, cases: &[u8], at: usize) -> Number
-        requires { HasBytes self.size }
         ensures { capped at 1 ≤ capped result.behind result.value }
     {
         match self.size {
-            Some(value) => Number { value, behind: at },
+            Some(size) => Number {
+                value: size.max(1),
+                behind: at,
+            },
             None => cursor::number_at(cases, at, LENGTH_BYTES),
         }
     }
 
     // The case at a place.
     fn case_at(self, cases: &[u8], at: usize) -> Case
-        requires { HasBytes self.size }
         ensures { capped at 1 ≤ capped result.part.behind result.part.value }
     {
         let first = cursor::number_at(cases, at, self.widths[0]);
@@ -65,8 +65,7 @@ impl Layout {
 
     // Prints what is to be printed of each case. The cases stand one behind the other, each as long as its own front says: no iterator of the library goes so.
     pub fn print_cases<F: Fn([u64; 2], &[u8])>(self, cases: &[u8], print: F)
-        requires has_bytes { HasBytes self.size }
-        requires callable { F.IsAlwaysCallable print }
+        requires { F.IsAlwaysCallable print }
     {
         let mut at = 0;
         while at < cases.len() {
@@ -80,8 +79,7 @@ impl Layout {
 
     // The same of the cases in a file of this name.
     pub fn print_file<F: Fn([u64; 2], &[u8])>(self, rt: &HostRuntime, path: &[u8], print: F)
-        requires has_bytes { HasBytes self.size }
-        requires callable { F.IsAlwaysCallable print }
+        requires { F.IsAlwaysCallable print }
     {
         let mut buffer = file::room();
         let size = file::load(rt, path, &mut buffer);

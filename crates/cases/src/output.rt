@@ -1,5 +1,5 @@
 // The outputs that cases write into.
-ghost use Rattle.std.specs.Prelude.{◌≡◌, ◌^◌, ◌<◌, length};
+ghost use Rattle.std.specs.Prelude.{◌≡◌, length};
 ghost use Rattle.cases.specs.Output.{pattern};
 
 use crate::print;
@@ -26,14 +26,12 @@ pub fn print_too_long() {
     print::text(b"an output is too long\n");
 }
 
-// Lends an output of so many bytes, of ROOM or less, or says that it is too long.
-pub fn lend<const ROOM: usize, F: FnOnce(&mut [u8])>(size: u64, work: F)
-    requires small { ROOM < 2 ^ 63 }
-    requires callable { F.IsAlwaysCallable work }
+// Lends the front of a room as an output of so many bytes, or says that it is too long.
+pub fn lend<F: FnOnce(&mut [u8])>(room: &mut [u8], size: u64, work: F)
+    requires { F.IsAlwaysCallable work }
 {
-    let mut room = [0; ROOM];
     let size = size as usize;
-    if ROOM < size {
+    if room.len() < size {
         print_too_long();
     } else {
         work(&mut room[..size]);

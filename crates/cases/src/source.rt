@@ -1,6 +1,5 @@
 // The files of cases that a test program runs.
 ghost use Rattle.io.specs.Counts.{IsPrefixLen};
-ghost use Rattle.cases.specs.Layout.{HasBytes};
 
 use crate::layout::Layout;
 use crate::{file, print};
@@ -52,8 +51,7 @@ impl Source {
         layout: Layout,
         print: F,
     )
-        requires has_bytes { HasBytes layout.size }
-        requires callable { F.IsAlwaysCallable print }
+        requires { F.IsAlwaysCallable print }
     {
         let mut buffer = file::room();
         self.print_title(way);

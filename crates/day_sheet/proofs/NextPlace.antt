@@ -16,7 +16,7 @@ use Rattle.day_sheet.specs.declared.number.Form.{Form}
 use Rattle.day_sheet.specs.declared.number.Form.TheVariants.{Bytes}
 use Rattle.day_sheet.specs.declared.layout.Place.{Place}
 use Rattle.day_sheet.specs.Number.{base, zero_byte, holds_right, in_base, value_in}
-use Rattle.day_sheet.specs.Layout.{bytes, version2, table_width, in_places, from_places, digits_right}
+use Rattle.day_sheet.specs.Layout.{bytes, digits, version2, table_width, in_places, from_places, digits_right}
 use Rattle.day_sheet.specs.FirstPlaces.{first_places}
 
 -- the number that stands in a place
@@ -84,6 +84,30 @@ by_pair (p ∷ ps) (suc n) = by_pair ps n
 
 pub by_table : (n : ℕ) → place (get_or (map pair version2) n (0, Bytes)) ≡ get_or version2 n (bytes 0)
 by_table n = by_pair version2 n
+
+-- and by its width alone: the third and the fourth are in digits, all others in bytes
+abbrev AllBytes : List Place → Type 0
+AllBytes [] = Unit {0}
+AllBytes (p ∷ ps) = (Bytes ≡ p.form) × AllBytes ps
+
+by_width : (ps : List Place) → AllBytes ps → (n : ℕ) → bytes (get_or (map (λ (p : Place). p.width) ps) n 0) ≡ get_or ps n (bytes 0)
+by_width [] a n = refl
+by_width (p ∷ ps) a zero = λ i. record { width = p.width; form = a.0 i }
+by_width (p ∷ ps) a (suc n) = by_width ps a.1 n
+
+pub in_digits : (n : ℕ) → 2 ≤ n → n < 4 → digits (get_or (map (λ (p : Place). p.width) version2) n 0) ≡ get_or version2 n (bytes 0)
+in_digits zero a b = absurd (omega arith)
+in_digits (suc zero) a b = absurd (omega arith)
+in_digits (suc (suc zero)) a b = refl
+in_digits (suc (suc (suc zero))) a b = refl
+in_digits (suc (suc (suc (suc n)))) a b = absurd (omega arith)
+
+pub in_bytes : (n : ℕ) → (n ≡ 2 → ⊥) → (n ≡ 3 → ⊥) → bytes (get_or (map (λ (p : Place). p.width) version2) n 0) ≡ get_or version2 n (bytes 0)
+in_bytes zero a b = refl
+in_bytes (suc zero) a b = refl
+in_bytes (suc (suc zero)) a b = absurd (a refl)
+in_bytes (suc (suc (suc zero))) a b = absurd (b refl)
+in_bytes (suc (suc (suc (suc n)))) a b = by_width (drop 4 version2) (refl, (refl, (refl, (refl, (refl, (refl, (refl, (refl, (refl, (refl, tt)))))))))) n
 
 -- no place is wider than eight bytes
 abbrev narrow : List Place → Bool

@@ -80,8 +80,8 @@ pub struct Place {
     pub form: Form,
 }
 
-// How many bytes each number takes, and in which form: date and movement are ASCII digits.
-const TABLE: [(usize, Form); PLACES] = [
+// How many bytes each number takes, and in which form: date and movement are ASCII digits. (A `const` would be made anew at each look.)
+static TABLE: [(usize, Form); PLACES] = [
     (2, Form::Bytes),
     (1, Form::Bytes),
     (8, Form::Digits),

@@ -6,8 +6,8 @@ ghost use Rattle.file_list.specs.Tally.{tally_line};
 use crate::tally;
 use crate::tally::Tally;
 use program::mistake::Mistake;
-use program::outcome;
 use program::outcome::Teller;
+use program::{mistake, outcome};
 
 // The tally, where every file has its line; or the mistake that ends the list before its last file.
 pub type Listed = Result<Tally, Mistake>;
@@ -26,7 +26,10 @@ impl Teller for TallyLine {
     }
 }
 
-// Prints the tally, or tells the mistake, by one call.
+// Prints the tally, or tells the mistake, by one call. (A mistake is no outcome here: where it cannot be told, nothing else is.)
 pub fn print(rt: &HostRuntime, listed: Listed) {
-    outcome::print(rt, &TallyLine, listed);
+    match listed {
+        Ok(_) => outcome::print(rt, &TallyLine, listed),
+        Err(mistake) => mistake::tell(rt, mistake),
+    }
 }

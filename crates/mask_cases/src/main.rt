@@ -17,7 +17,8 @@ fn print_all<F: Fn(u64, &[u8], &mut [u8])>(rt: &HostRuntime, source: Source, way
     requires { F.IsAlwaysCallable print }
 {
     source.print_cases(rt, way, OUTPUT_OF_FILE, |[edition, size], file| {
-        output::lend::<ROOM, _>(size, |out| print(edition, file, out))
+        let mut room = [0; ROOM];
+        output::lend(&mut room, size, |out| print(edition, file, out))
     });
 }
 

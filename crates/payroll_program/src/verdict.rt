@@ -4,11 +4,16 @@ ghost use Rattle.wording.specs.Put.{Puts};
 ghost use Rattle.payroll_program.specs.Verdict.{accepted_text, verdict_text, outcome_text, descriptor_of};
 
 use crate::outcome::PayrollOutcome;
+use files::writing;
 use files::writing::Standard;
 use payroll_file::answer::{Accepted, PayrollAnswer};
-use program::outcome;
+use program::mistake::{Failed, Mistake};
 use program::outcome::Teller;
+use program::{mistake, outcome};
 use wording::{line, put};
+
+// Room for every text.
+const ROOM: usize = 256;
 
 // Each function here puts its text behind the first `at` bytes, and answers how many bytes stand there then. First the lines of an accepted file.
 fn put_accepted(accepted: Accepted, out: &mut [u8], at: usize) -> usize
@@ -44,7 +49,7 @@ impl Teller for Verdict {
     }
 }
 
-// The verdict, or the mistake's sentence. (This and the two below are lines over what the programs share: what may not change is that each is asked by its name.)
+// The verdict, or the mistake's sentence. (This and the one below are lines over what the programs share: what may not change is that each is asked by its name.)
 pub fn put_outcome(outcome: PayrollOutcome, out: &mut [u8], at: usize) -> usize
     ensures { Puts (outcome_text outcome) out.old at result out.new }
 {
@@ -58,7 +63,18 @@ pub fn descriptor(outcome: PayrollOutcome) -> Standard
     outcome::standard(&outcome)
 }
 
+// Writes an outcome's text, and no other. (Here and not in `program::outcome`, so that `print` is held to the outcome that it is given.)
+fn write(rt: &HostRuntime, outcome: PayrollOutcome, text: &[u8])
+    requires { text.now ≡ outcome_text outcome }
+{
+    if let Err(error) = writing::write_to(rt, descriptor(outcome), text) {
+        mistake::tell(rt, Mistake::System(Failed::Print, error));
+    }
+}
+
 // Prints the verdict, or tells the mistake, by one call.
 pub fn print(rt: &HostRuntime, outcome: PayrollOutcome) {
-    outcome::print(rt, &Verdict, outcome);
+    let mut room = [0u8; ROOM];
+    let size = put_outcome(outcome, &mut room, 0);
+    write(rt, outcome, &room[..size]);
 }

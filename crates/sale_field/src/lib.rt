@@ -12,8 +12,8 @@ use refusal::{Cause, Refusal};
 use text::literal;
 use text::part::part_of;
 
-// Fields 1 to 26 of a CV.
-const FIELDS: [Field; 26] = [
+// Fields 1 to 26 of a CV. (A `const` would be made anew at each look.)
+static FIELDS: [Field; 26] = [
     Field(1, 2, Content::Text),
     Cv::STORE,
     Cv::NSU,

@@ -6,7 +6,6 @@
 use card_program::verdict::Lines;
 use program::mistake::{Mistake, Program};
 use program::{argument, mistake};
-use sheet_program::read::SheetOutcome;
 use sheet_program::{convert, read, verdict, work};
 
 fn is_convert(argument: &[u8]) -> bool {
@@ -32,22 +31,20 @@ fn save_named(rt: &HostRuntime) -> Result<(), Mistake> {
     Ok(())
 }
 
-// Reads the sheet that the first argument names; `--convert` alone is no name.
-fn read_named(rt: &HostRuntime) -> SheetOutcome {
+// Prints the numbers of the sheet that the first argument names; `--convert` alone is no name.
+fn print_named(rt: &HostRuntime) -> Result<(), Mistake> {
     let mut file = io::buffer();
     let size = argument::read(rt, 1, &mut file)?;
     if is_convert(&file[..size]) {
         return Err(Mistake::Usage(Program::Sheet));
     }
-    read::read(rt, &file[..size])
+    verdict::print(rt, read::read(rt, &file[..size]));
+    Ok(())
 }
 
 fn main(rt: HostRuntime) {
     let mistaken = match argument::count(&rt) {
-        2 => {
-            verdict::print(&rt, read_named(&rt));
-            Ok(())
-        }
+        2 => print_named(&rt),
         4 => save_named(&rt),
         _ => Err(Mistake::Usage(Program::Sheet)),
     };

@@ -1,6 +1,4 @@
 // Sheets that are written into an output, by what a sheet is made of: its numbers, a sheet of the other version, or a card file.
-ghost use Rattle.cases.specs.Layout.{HasBytes};
-
 use crate::numbers;
 use cases::layout::Layout;
 use cases::{answer, output, print};
@@ -38,14 +36,14 @@ pub fn print_file<A: Fn(u64, &[u8], &mut [u8]), T: Fn(&[u8])>(
     print_answer: A,
     tell: T,
 )
-    requires has_bytes { HasBytes layout.size }
     requires answers { A.IsAlwaysCallable print_answer }
     requires tells { T.IsAlwaysCallable tell }
 {
     print::text(path);
     print::byte(b'\n');
     layout.print_file(rt, path, |[edition, size], input| {
-        output::lend::<ROOM, _>(size, |out| {
+        let mut room = [0; ROOM];
+        output::lend(&mut room, size, |out| {
             output::fill(out);
             print_answer(edition, input, out);
             print::byte(b' ');

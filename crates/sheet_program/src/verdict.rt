@@ -15,9 +15,11 @@ ghost use Rattle.sheet_program.specs.Verdict.{
 use crate::read::SheetOutcome;
 use card_program::verdict;
 use day_sheet::number::Form;
+use files::writing;
 use files::writing::Standard;
-use program::outcome;
+use program::mistake::{Failed, Mistake};
 use program::outcome::Teller;
+use program::{mistake, outcome};
 use refusal::Answer;
 use sheet_numbers::sheet::{Heading, Sheet};
 use totals::amounts::Totals;
@@ -28,6 +30,9 @@ use wording::{line, put};
 const DATE_DIGITS: usize = 8;
 
 const MOVEMENT_DIGITS: usize = 6;
+
+// Room for every text.
+const ROOM: usize = 448;
 
 // Each function here puts its text behind the first `at` bytes, and answers how many bytes stand there then. First a word and so many digits of a
 // number, of which a date has the most.
@@ -104,7 +109,7 @@ impl Teller for DaySheet {
     }
 }
 
-// The numbers of a day sheet, its refusal, or the mistake's sentence. (This and the two below are lines over what the programs share: what may not change is that each is asked by its name.)
+// The numbers of a day sheet, its refusal, or the mistake's sentence. (This and the one below are lines over what the programs share: what may not change is that each is asked by its name.)
 pub fn put_outcome(outcome: SheetOutcome, out: &mut [u8], at: usize) -> usize
     ensures { Puts (outcome_text outcome) out.old at result out.new }
 {
@@ -118,7 +123,18 @@ pub fn descriptor(outcome: SheetOutcome) -> Standard
     outcome::standard(&outcome)
 }
 
+// Writes an outcome's text, and no other. (Here and not in `program::outcome`, so that `print` is held to the outcome that it is given.)
+fn write(rt: &HostRuntime, outcome: SheetOutcome, text: &[u8])
+    requires { text.now ≡ outcome_text outcome }
+{
+    if let Err(error) = writing::write_to(rt, descriptor(outcome), text) {
+        mistake::tell(rt, Mistake::System(Failed::Print, error));
+    }
+}
+
 // Prints the numbers of a day sheet or its refusal, or tells the mistake, by one call.
 pub fn print(rt: &HostRuntime, outcome: SheetOutcome) {
-    outcome::print(rt, &DaySheet, outcome);
+    let mut room = [0u8; ROOM];
+    let size = put_outcome(outcome, &mut room, 0);
+    write(rt, outcome, &room[..size]);
 }

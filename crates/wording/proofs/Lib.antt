@@ -1,4 +1,5 @@
 pub mod Decimals
 pub mod Lengths
+pub mod Marked
 pub mod Putting
 pub mod Shown

@@ -70,7 +70,7 @@ behind (suc at) t u (b ∷ s) =
     rw n (ap (λ (l : List ℕ). b ∷ l) (behind at t u s))
 
 -- a text that is put behind all of a buffer is put nowhere
-at_most : (at : ℕ) (t s : List ℕ) → over_at (min at (length s)) t s ≡ over_at at t s
+pub at_most : (at : ℕ) (t s : List ℕ) → over_at (min at (length s)) t s ≡ over_at at t s
 unfolding over_at over
 at_most zero t s = simp unary_clauses refl
 at_most (suc at) t [] = simp unary_clauses (full zero t [] (omega arith))

@@ -23,14 +23,23 @@ fn shown_byte(byte: u8, mark: u8) -> u8
     if byte.is_ascii_control() { mark } else { byte }
 }
 
-// Puts a text as `text` does, with the mark for each control byte, so that it stays on one line.
+// Puts the mark over each control byte of some bytes.
+fn mark_over(bytes: &mut [u8], mark: u8)
+    ensures { bytes.new ≡ shown_as mark bytes.old }
+{
+    for byte in bytes.iter_mut() {
+        *byte = shown_byte(*byte, mark);
+    }
+}
+
+// Puts a text as `text` does, with the mark for each control byte, so that it stays on one line. (It is put whole, and marked where it stands: put by the byte,
+// the long names of a list take twice the time and more.)
 pub fn shown(text: &[u8], mark: u8, out: &mut [u8], at: usize) -> usize
     ensures { Puts (shown_as mark text.now) out.old at result out.new }
 {
-    let mut end = at.min(out.len());
-    for byte in text {
-        end = self::text(&[shown_byte(*byte, mark)], out, end);
-    }
+    let start = at.min(out.len());
+    let end = self::text(text, out, at);
+    mark_over(&mut out[start..end], mark);
     end
 }
 
