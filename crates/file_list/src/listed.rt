@@ -26,7 +26,8 @@ impl Teller for TallyLine {
     }
 }
 
-// Prints the tally, or tells the mistake, by one call. (A mistake is no outcome here: where it cannot be told, nothing else is.)
+// Prints the tally, or tells the mistake, by one call. (A mistake goes to `tell`: `outcome::print` would tell a failed write of it once more,
+// as a verdict that cannot be printed.)
 pub fn print(rt: &HostRuntime, listed: Listed) {
     match listed {
         Ok(_) => outcome::print(rt, &TallyLine, listed),

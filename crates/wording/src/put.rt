@@ -32,8 +32,8 @@ fn mark_over(bytes: &mut [u8], mark: u8)
     }
 }
 
-// Puts a text as `text` does, with the mark for each control byte, so that it stays on one line. (It is put whole, and marked where it stands: put by the byte,
-// the long names of a list take twice the time and more.)
+// Puts a text as `text` does, with the mark for each control byte, so that it stays on one line. (It is put whole, and marked where it stands: put by
+// the byte, a long name costs four times the instructions.)
 pub fn shown(text: &[u8], mark: u8, out: &mut [u8], at: usize) -> usize
     ensures { Puts (shown_as mark text.now) out.old at result out.new }
 {
